@@ -1,0 +1,14 @@
+pub mod Refusals
+pub mod Types
+pub mod Words
+pub mod Source
+pub mod Reading
+pub mod Names
+pub mod Typing
+pub mod Heights
+pub mod Plain
+pub mod Meaning
+pub mod Unwinding
+pub mod Printing
+pub mod Tables
+pub mod Judge
