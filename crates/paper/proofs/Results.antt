@@ -14,7 +14,8 @@ use Rattle.paper.specs.declared.Verdict.the-variants.{Accepted}
 use Rattle.paper.specs.Refusals.{given}
 use Rattle.paper.specs.Types.{encode, decode, apply, convert}
 use Rattle.paper.specs.Words.{bytes}
-use Rattle.paper.specs.Judge.{verdict, printInto}
+use Rattle.paper.specs.Judge.{verdict, printInto, tableInto}
+use Rattle.paper.specs.Tables.{Lent}
 use Rattle.paper.proofs.Runs.{all, Runs, after, shown, heldAll, written, unwound, scanned, tabled, states}
 
 -- an operator on values of a type
@@ -84,3 +85,21 @@ twelve =
 pub in-print : printInto (bytes meter) (replicate 208 0) ≡ given (bytes st0)
 unfolding all
 in-print = refl
+
+-- the worked example of docs/LAYOUT.md
+abbrev adding : String
+adding = "PROGRAM P VAR_INPUT Q : INT; END_VAR VAR T : DINT; END_VAR T := T + INT_TO_DINT(Q); END_PROGRAM"
+
+-- its rows stand in front of what the buffer held
+abbrev addingTable : Lent
+addingTable =
+    record {
+      rows = 9 ∷ 0 ∷ 0 ∷ 0 ∷ 11 ∷ 1 ∷ 0 ∷ 0 ∷ 169 ∷ 0 ∷ 0 ∷ 0 ∷ 67 ∷ 1 ∷ 2 ∷ 0 ∷ replicate 8 7;
+      cells = 9 ∷ 67 ∷ [];
+      rowCount = 4;
+      cellCount = 2;
+    }
+
+pub in-layout : tableInto (bytes adding) (replicate 24 7) (replicate 2 7) ≡ given addingTable
+unfolding all
+in-layout = refl

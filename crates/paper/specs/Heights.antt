@@ -67,15 +67,15 @@ abbrev pub armFaults : ℕ → List Label → List ℕ
 armFaults h [] = []
 armFaults h (l ∷ ls) = tooHigh (labelPlace l) (joinedHeight h (testHeight h l) ls)
 
--- `h` is the height of the selector of the CASE around
+-- `h` is the height of the selector of the CASE around, and counts at an arm only
 unfoldable pub statementFaults : Stmts → ℕ → List ℕ
 statementFaults done h = []
-statementFaults (assign x q e k) h = subscripts x ++ measured e ++ statementFaults k h
-statementFaults (choice p q c a b k) h = measured c ++ statementFaults a 0 ++ statementFaults b 0 ++ statementFaults k h
-statementFaults (select p s a k) h = subscripts s ++ statementFaults a (height s) ++ statementFaults k h
-statementFaults (arm ls a k) h = armFaults h ls ++ statementFaults a 0 ++ statementFaults k h
+statementFaults (assign x q e k) h = subscripts x ++ measured e ++ statementFaults k 1
+statementFaults (choice p q c a b k) h = measured c ++ statementFaults a 1 ++ statementFaults b 1 ++ statementFaults k 1
+statementFaults (select p s a k) h = subscripts s ++ statementFaults a (height s) ++ statementFaults k 1
+statementFaults (arm ls a k) h = armFaults h ls ++ statementFaults a 1 ++ statementFaults k h
 statementFaults (loop p q v a b c body k) h =
-    measured a ++ measured b ++ measured c ++ statementFaults body 0 ++ statementFaults k h
+    measured a ++ measured b ++ measured c ++ statementFaults body 1 ++ statementFaults k 1
 
 unfoldable pub heightFaults : Program → List ℕ
-heightFaults pr = statementFaults (pr .body) 0
+heightFaults pr = statementFaults (pr .body) 1

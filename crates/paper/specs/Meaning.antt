@@ -117,22 +117,22 @@ module _ (vs : List Variable) where
 
   -- ---- statements
 
-  -- `sel` is the selector's value of the CASE around
+  -- `sel` is the selector's value of the CASE around, and counts at an arm only
   unfoldable pub run : Stmts → ℤ → Ran → Option Ran
   run done sel r = some r
   run (assign x q e k) sel r = do
     c ← cellOf (r .state) x
     v ← value (r .state) (typeIn vs DINT x) e
-    run k sel (carried c v r)
+    run k (pos 0) (carried c v r)
   run (choice p q c a b k) sel r = do
     v ← value (r .state) DINT c
     let branch : Option Ran = elim (isTrue v) [ true ↦ run a (pos 0) (tested r) | false ↦ run b (pos 0) (tested r) ]
     x ← branch
-    run k sel x
+    run k (pos 0) x
   run (select p s a k) sel r = do
     z ← wholeValue (r .state) DINT s
     x ← run a z r
-    run k sel x
+    run k (pos 0) x
   run (arm ls a k) sel r = elim (matchesAny sel ls) [ true ↦ run a (pos 0) (tested r) | false ↦ run k sel (tested r) ]
   run (loop p q n a b c body k) sel r = do
     v ← find n vs
@@ -142,4 +142,4 @@ module _ (vs : List Variable) where
     from ← wholeValue (r .state) t a
     to ← wholeValue (r .state) t b
     x ← looped (λ z y. carried cell (encode t z) y) (λ y. run body (pos 0) y) by to from r
-    run k sel x
+    run k (pos 0) x

@@ -133,6 +133,11 @@ negated p (faulty ps) = faulty ps
 negated p numbers = numbers
 negated p (typed t) = unless (at p (not (signed t))) t
 
+-- 'conversions between two integer types'
+abbrev pub converted : ℕ → Ty → Ty → Settled → Judged
+converted p t u s =
+    unless (orElse (s .faults) (at p (not (sameTy t (s .ty) && isInteger t && isInteger u && not (sameTy t u))))) u
+
 -- the operator's own rule: one type on both sides, of its kind, and a good divisor
 abbrev pub operated : ℕ → Op → Expr → Settled → Settled → Judged
 operated p o r x y =
@@ -161,7 +166,7 @@ subscriptFaults loops q i s = orElse (s .faults) (at q (not (isConstant loops i)
 -- the right side has the target's type; where the target is faulty, numbers only aren't judged
 abbrev pub assignFaults : ℕ → Expr → Judged → Judged → List ℕ
 assignFaults q e (faulty ps) j = ps ++ faultsOf j
-assignFaults q e numbers j = faultsOf j
+assignFaults q e numbers j = q ∷ faultsOf j
 assignFaults q e (typed t) j = demandFaults t q (settle t e j)
 
 -- a scan constant of the type t
@@ -219,7 +224,7 @@ module _ (vs : List Variable) where
   judged loops (minus p e) = negated p (judged loops e)
   judged loops (complement p e) = unless (demandFaults BOOL p (settle DINT e (judged loops e))) BOOL
   judged loops (binary p o l r) = joined p o l r (judged loops l) (judged loops r)
-  judged loops (conversion p t u e) = unless (demandFaults t p (settle t e (judged loops e))) u
+  judged loops (conversion p t u e) = converted p t u (settle t e (judged loops e))
   judged loops (brackets p e) = judged loops e
 
   -- an expression where t is offered
@@ -263,24 +268,26 @@ module _ (vs : List Variable) where
       orElse (x .faults ++ y .faults ++ z .faults)
       (at p (not (isBound loops t a x && isBound loops t b y && isBound loops t c z)))
 
-  -- `sel` is the type of the labels of the CASE around
+  -- `sel` is the type of the labels of the CASE around, and counts at an arm only
   unfoldable pub statementFaults : Stmts → List Name → Option Ty → List ℕ
   statementFaults done loops sel = []
   statementFaults (assign x q e k) loops sel =
-      assignFaults q e (judged loops x) (judged loops e) ++ statementFaults k loops sel
+      assignFaults q e (judged loops x) (judged loops e) ++ statementFaults k loops (some DINT)
   statementFaults (choice p q c a b k) loops sel =
       demandFaults BOOL p (settled loops DINT c)
-      ++ statementFaults a loops none
-      ++ statementFaults b loops none
-      ++ statementFaults k loops sel
+      ++ statementFaults a loops (some DINT)
+      ++ statementFaults b loops (some DINT)
+      ++ statementFaults k loops (some DINT)
   statementFaults (select p s a k) loops sel =
       let x = settled loops DINT s in
       let ps = selectorFaults p x in
-      ps ++ statementFaults a loops (labelType ps (x .ty)) ++ statementFaults k loops sel
+      ps ++ statementFaults a loops (labelType ps (x .ty)) ++ statementFaults k loops (some DINT)
   statementFaults (arm ls a k) loops sel =
-      labelsFaults sel ls ++ statementFaults a loops none ++ statementFaults k loops sel
+      labelsFaults sel ls ++ statementFaults a loops (some DINT) ++ statementFaults k loops sel
   statementFaults (loop p q v a b c body k) loops sel =
-      loopFaults loops p (typeOfName v) a b c ++ statementFaults body (v ∷ loops) none ++ statementFaults k loops sel
+      loopFaults loops p (typeOfName v) a b c
+      ++ statementFaults body (v ∷ loops) (some DINT)
+      ++ statementFaults k loops (some DINT)
 
 -- ---- declarations
 
@@ -301,4 +308,4 @@ declarationFaults (d ∷ ds) = boundsFaults (d .bounds) ++ initialFaults (d .ty)
 unfoldable pub typeFaults : Program → List ℕ
 typeFaults pr =
     declarationFaults (pr .declared)
-    ++ statementFaults (variablesOf (pr .declared)) (pr .body) [] none
+    ++ statementFaults (variablesOf (pr .declared)) (pr .body) [] (some DINT)

@@ -4,7 +4,7 @@ use mathlib.Core.Option.{Option, none, some}
 use mathlib.Core.List.{List, [], _∷_}
 use Prim.Native.Nat.{ℕ, zero, suc, _+_}
 use lib.Dec.{leb}
-use lib.IntN.{ℤ, _+ℤ_}
+use lib.IntN.{ℤ, pos, _+ℤ_}
 use lib.ListN.{replicate, length}
 use Rattle.paper.specs.declared.Ty.{Ty}
 use Rattle.paper.specs.declared.Ty.the-variants.{Bool as BOOL, Dint as DINT}
@@ -63,7 +63,7 @@ testsOf s (l ∷ ls) = orTests s (testOf s l) ls
 
 -- outside a CASE
 abbrev pub noSelector : Selector
-noSelector = record { place = 0; plain = truth false; ty = DINT }
+noSelector = record { place = 0; plain = number DINT (pos 0); ty = DINT }
 
 -- ---- FOR
 
@@ -132,7 +132,7 @@ module _ (vs : List Variable) where
     c ← cellIn env x
     v ← plainOf env (typeIn vs DINT x) e
     w ← heavier (firstWord x) (parts v) w
-    r ← unwind k env sel w
+    r ← unwind k env noSelector w
     unwound (assign c v (r .plain)) (r .weight)
   unwind (S.choice p q c a b k) env sel w = do
     v ← plainOf env DINT c
@@ -140,12 +140,12 @@ module _ (vs : List Variable) where
     x ← unwind a env noSelector w
     y ← unwind b env noSelector (x .weight)
     w ← heavier q (cellsWithin (length (cellsOf vs)) (x .plain) (y .plain)) (y .weight)
-    r ← unwind k env sel w
+    r ← unwind k env noSelector w
     unwound (choice v (x .plain) (y .plain) (r .plain)) (r .weight)
   unwind (S.select p s a k) env sel w = do
     v ← plainOf env DINT s
     x ← unwind a env (record { place = p; plain = v; ty = typeIn vs DINT s }) w
-    r ← unwind k env sel (x .weight)
+    r ← unwind k env noSelector (x .weight)
     unwound (x .plain ⨾ r .plain) (r .weight)
   unwind (S.arm ls a k) env sel w = do
     w ← heavier (sel .place) (parts (testsOf sel ls)) w
@@ -161,7 +161,7 @@ module _ (vs : List Variable) where
     from ← found p (wholeValue vs env t a)
     to ← found p (wholeValue vs env t b)
     x ← looped p t cell (λ z w. unwind body (store cell (encode t z) env) noSelector w) by to from w
-    r ← unwind k env sel (x .weight)
+    r ← unwind k env noSelector (x .weight)
     unwound (x .plain ⨾ r .plain) (r .weight)
 
 unfoldable pub unwoundProgram : Program → Answer Unwound
