@@ -1,0 +1,3 @@
+pub mod InTypes
+pub mod Trees
+pub mod Demand3
