@@ -1,7 +1,7 @@
 -- What acceptance gives: no fault of names or types, and what the walk gave.
 use mathlib.Core.Path.{_≡_, refl, sym}
 use mathlib.Core.Option.{Option, none, some}
-use mathlib.Core.List.{List, [], _∷_, _++_}
+use mathlib.Core.List.{List, [], _∷_}
 use Prim.Native.Nat.{ℕ, min}
 use Rattle.paper.specs.declared.Why.{Why}
 use Rattle.paper.specs.declared.Why.the-variants.{BadName, BadType, TooHigh}

@@ -1,48 +1,37 @@
 -- An assignment: its plain form means what it does as written.
-use mathlib.Core.Path.{_≡_, refl, sym, ap, _∙_, subst}
-use mathlib.Core.Bool.{Bool, true, false, not, cond, _&&_, _||_, true≢false}
-use mathlib.Core.Option.{Option, none, some}
-use mathlib.Core.List.{List, [], _∷_, _++_}
-use Prim.Native.Nat.{ℕ, zero, suc, _+_, _<_, _≤_}
+use mathlib.Core.Path.{_≡_, refl, sym, _∙_}
+use mathlib.Core.Bool.{true}
+use mathlib.Core.Option.{Option, some}
+use mathlib.Core.List.{List, []}
+use Prim.Native.Nat.{ℕ}
 use native.Mathlib.Omega.{arith}
-use lib.Dec.{eqb, eqb→eq}
-use lib.IntN.{ℤ, pos, _+ℤ_, _-ℤ_, natAbs}
-use lib.ListN.{length, getD, set, length-set, getElem?}
+use lib.IntN.{ℤ}
 use Rattle.paper.specs.declared.Ty.{Ty}
-use Rattle.paper.specs.declared.Ty.the-variants.{Bool as BOOL, Int as INT, Uint as UINT, Dint as DINT, Udint as UDINT}
+use Rattle.paper.specs.declared.Ty.the-variants.{Dint as DINT}
 use Rattle.paper.specs.declared.Cell.{Cell}
-use Rattle.paper.specs.Refusals.{Answer, refused, given}
-use Rattle.paper.specs.Types.{isInteger, forNumbers, encode, decode}
-use Rattle.paper.specs.Words.{sameBytes}
+use Rattle.paper.specs.Refusals.{given}
+use Rattle.paper.specs.Types.{isInteger}
 use Rattle.paper.specs.Source as S
 use Rattle.paper.specs.Source.{Name, Declared}
-use Rattle.paper.specs.Names.{Variable, Info, variablesOf, cellsOf, find, isAmong, assigned}
+use Rattle.paper.specs.Names.{Variable, assigned}
 use Rattle.paper.specs.Typing.{numbers, judged, settled, demandFaults, assignFaults, typeIn}
-use Rattle.paper.specs.Plain.{Expr, number, Stmts, done, assign, choice, State, Ran, look, valueOf, run, weight, assigns, parts, carried, tested, _⨾_}
+use Rattle.paper.specs.Plain.{Expr, done, assign, State, Ran, run, weight, assigns, parts, carried}
 use Rattle.paper.specs.Meaning as M
-use Rattle.paper.specs.Meaning.{variableCell, cellOfVariable, _>>=_}
-use Rattle.paper.specs.Unwinding.{Unwound, Selector, noSelector, plainOf}
-use Rattle.demands.proofs.Typed.{Typed, WellTyped}
-use Rattle.demands.proofs.PlainRuns.{run-⨾, assigns-⨾, weight-⨾, welltyped-⨾, run-keeps, run-length}
-use Rattle.demands.proofs.Cells.{infoOf, CellOf, sameBytes-eq, variable-cell, find-info, find-apart}
-use Rattle.demands.proofs.Answers.{Heavier, bind-some}
+use Rattle.paper.specs.Meaning.{_>>=_}
+use Rattle.paper.specs.Unwinding.{Selector, plainOf}
+use Rattle.demands.proofs.Answers.{Heavier}
+use Rattle.demands.proofs.TypeFacts.{numbers-integer}
+use Rattle.demands.proofs.Cells.{infoOf, find-info}
 use Rattle.demands.proofs.Fits.{demand-none}
 use Rattle.demands.proofs.Expressions.{Agree, Faultless, PlainForm, settled-type, plain-form}
 use Rattle.demands.proofs.Targets.{aims, aimed}
-use Rattle.demands.proofs.Means.{Vars, Infos, selected, Keeps, Means, free-cell}
+use Rattle.demands.proofs.Means.{Vars, Means, free-cell}
 
 -- numbers that take the type that is demanded take an integer type
-numbers-offered : (t : Ty) → t ≡ forNumbers t → isInteger t ≡ true
-numbers-offered BOOL e = let z : _≡_ {A = ℕ} 0 1 = cc in absurd (omega arith)
-numbers-offered INT e = refl
-numbers-offered UINT e = refl
-numbers-offered DINT e = refl
-numbers-offered UDINT e = refl
-
 offered-own : (vs : List Variable) (loops : List Name) (t : Ty) (e : S.Expr)
     → t ≡ settled vs loops t e .ty → judged vs loops e ≡ numbers → isInteger t ≡ true
 unfolding settled
-offered-own vs loops t e h n = numbers-offered t (rw (n, settled) at h)
+offered-own vs loops t e h n = numbers-integer t (sym (rw (n, settled) at h))
 
 -- what is demanded of an expression and not faulted
 pub demanded : (vs : List Variable) (loops : List Name) (d t : Ty) (p : ℕ) (e : S.Expr)

@@ -2,7 +2,7 @@
 use mathlib.Core.Path.{_≡_, refl, _∙_}
 use mathlib.Core.Bool.{Bool, true, false, not, _||_, or-assoc, or-false, false≢true}
 use mathlib.Core.Option.{some}
-use mathlib.Core.List.{List, [], _∷_, _++_}
+use mathlib.Core.List.{List, [], _∷_}
 use Prim.Native.Nat.{ℕ}
 use lib.IntN.{ℤ}
 use Rattle.paper.specs.declared.Ty.{Ty}
@@ -15,36 +15,24 @@ use Rattle.paper.specs.Typing.{labelFaults, labelsFaults}
 use Rattle.paper.specs.Plain.{Expr, binary, State, valueOf}
 use Rattle.paper.specs.Meaning.{matches, matchesAny}
 use Rattle.paper.specs.Unwinding.{Selector, testOf, orTests, testsOf}
+use Rattle.demands.proofs.Answers.{no-fault, test-passed}
 use Rattle.demands.proofs.Typed.{Typed}
-use Rattle.demands.proofs.Residues.{decode-encode}
+use Rattle.paper.proofs.Residues.{decode-encode}
 
 -- ---- labels without faults
 
-none-left : (ps qs : List ℕ) → ps ++ qs ≡ [] → ps ≡ []
-none-left [] qs h = refl
-none-left (p ∷ ps) qs h = cc
-
-none-right : (ps qs : List ℕ) → ps ++ qs ≡ [] → qs ≡ []
-none-right [] qs h = h
-none-right (p ∷ ps) qs h = cc
-
--- where there is no fault, the test has passed
-passes : (p : ℕ) (b : Bool) → at p (not b) ≡ [] → b ≡ true
-passes p true h = refl
-passes p false h = cc
-
 -- a label without fault has the value that its number stands for
 label-value : (t : Ty) (p : ℕ) (a : ℤ) → at p (not (fits t a)) ≡ [] → decode t (encode t a) ≡ a
-label-value t p a h = decode-encode t a (passes p (fits t a) h)
+label-value t p a h = decode-encode t a (test-passed p (fits t a) h)
 
 module _ (t : Ty) (l : Label) (ls : List Label) (h : labelsFaults (some t) (l ∷ ls) ≡ []) where
   first-faultless : labelFaults t l ≡ []
   unfolding labelsFaults
-  first-faultless = none-left (labelFaults t l) (labelsFaults (some t) ls) h
+  first-faultless = no-fault (labelFaults t l) (labelsFaults (some t) ls) h .0
 
   rest-faultless : labelsFaults (some t) ls ≡ []
   unfolding labelsFaults
-  rest-faultless = none-right (labelFaults t l) (labelsFaults (some t) ls) h
+  rest-faultless = no-fault (labelFaults t l) (labelsFaults (some t) ls) h .1
 
 -- ---- the test holds where a label matches
 
@@ -59,9 +47,8 @@ module _ (s : State) (sel : Selector) (z : ℤ) (d : decode (sel .ty) (valueOf s
   test-matches (one p a) h = rw (isTrue-bit, d, label-value (sel .ty) p a h)
   test-matches (range p a q b) h =
       let t : Ty = sel .ty in
-      let low : List ℕ = at p (not (fits t a)) in
-      let high : List ℕ = at q (not (fits t b)) in
-      simp (isTrue-bit, d, label-value t p a (none-left low high h), label-value t q b (none-right low high h))
+      let (low, high) = no-fault (at p (not (fits t a))) (at q (not (fits t b))) h in
+      simp (isTrue-bit, d, label-value t p a low, label-value t q b high)
 
   -- the OR of a test e and those of the labels behind
   or-tests : (e : Expr) (ls : List Label)

@@ -1,17 +1,16 @@
 -- Where variables lie among the cells: each in its own part, with its declared type.
 use mathlib.Core.Path.{_≡_, refl, sym, ap, ap₂, _∙_}
 use mathlib.Core.Logic.{_⊎_, inl, inr}
-use mathlib.Core.Bool.{Bool, true, false, cond, _&&_, _||_, true≢false, false≢true, and-eq-true-iff}
-use mathlib.Core.Option.{none, some, Option·some-inj, Option·none-ne-some}
-use mathlib.Core.List.{List, [], _∷_, _++_, cons≢nil}
+use mathlib.Core.Bool.{Bool, true, false, cond, _&&_, _||_, false≢true}
+use mathlib.Core.Option.{none, some, Option·some-inj}
+use mathlib.Core.List.{List, [], _∷_, _++_}
 use Prim.Native.Nat.{ℕ, zero, suc, _+_, _-_, _<_, _≤_}
-use native.Mathlib.Nat.{suc-add, zero-add, le-of-suc-le-suc, not-suc-le-zero}
 use native.Mathlib.Omega.{arith}
 use borrow.Author.Tests.{eqb-true, eq-eqb, leb-true, le-ltb, ltb-false}
 use lib.Dec.{ltb, leb, eqb}
 use lib.IntN.{ℤ, pos, negsuc, natAbs, _-ℤ_}
 use lib.Signed.{leZ}
-use lib.ListN.{length, getElem?, replicate, length-append, length-replicate}
+use lib.ListN.{length, getElem?, length-append, length-replicate}
 use Rattle.paper.specs.declared.Cell.{Cell}
 use Rattle.paper.specs.declared.Kind.{Kind}
 use Rattle.paper.specs.declared.Kind.the-variants.{Input, Output, Other}
@@ -19,6 +18,9 @@ use Rattle.paper.specs.Words.{sameBytes}
 use Rattle.paper.specs.Source.{Name, Bounds, single, array, Declared}
 use Rattle.paper.specs.Names.{Variable, Info, sizeOf, sameKind, ofKind, printed, placed, variablesOf, cellsOf, find, at, isAmong, reversed, declarationFaults}
 use Rattle.paper.specs.Meaning.{cellOfVariable, cellOfElement}
+use Rattle.demands.proofs.Truths.{and-true, or-false}
+use Rattle.demands.proofs.Answers.{none-some, no-fault, no-fault-at}
+use Rattle.demands.proofs.Lists.{copies-front, copies-behind}
 
 -- ---- names
 
@@ -28,8 +30,8 @@ sameBytes-eq [] [] h = refl
 sameBytes-eq [] (d ∷ t) h = absurd (false≢true h)
 sameBytes-eq (c ∷ s) [] h = absurd (false≢true h)
 sameBytes-eq (c ∷ s) (d ∷ t) h =
-    let both = and-eq-true-iff (eqb c d) (sameBytes s t) .0 h in
-    ap₂ _∷_ (eqb-true c d (both .0)) (sameBytes-eq s t (both .1))
+    let (first, rest) = and-true (eqb c d) (sameBytes s t) h in
+    ap₂ _∷_ (eqb-true c d first) (sameBytes-eq s t rest)
 
 pub sameBytes-refl : (n : Name) → sameBytes n n ≡ true
 unfolding sameBytes
@@ -55,16 +57,16 @@ variable-cell v c h = go (v .declared .bounds) refl
     go single e =
         let i : c ≡ record { 0 = v .first } = sym (Option·some-inj .0 (rw e at h)) in
         record { at = 0; inside = rw e (omega arith); is = omega (arith, ap (λ (x : Cell). x .0) i) }
-    go (array p lo q hi) e = absurd (Option·none-ne-some c (rw e at h))
+    go (array p lo q hi) e = none-some (rw e at h)
 
 -- an element between the bounds is one of those that they count
 element-inside : (lo hi : ℕ) (z : ℤ) → (leZ (pos lo) z && leZ z (pos hi)) ≡ true → natAbs (z -ℤ pos lo) < suc hi - lo
 element-inside zero hi (pos a) h =
-    let both = and-eq-true-iff (leb zero a) (leb a hi) .0 h in
-    omega (arith, leb-true a hi (both .1))
+    omega (arith, leb-true a hi (and-true (leb zero a) (leb a hi) h .1))
 element-inside (suc lo) hi (pos a) h =
-    let both = and-eq-true-iff (leb (suc lo) a) (leb a hi) .0 h in
-    rw (le-ltb a (suc lo) (leb-true (suc lo) a (both .0))) (omega (arith, leb-true (suc lo) a (both .0), leb-true a hi (both .1)))
+    let (above, below) = and-true (leb (suc lo) a) (leb a hi) h in
+    let low : suc lo ≤ a = leb-true (suc lo) a above in
+    rw (le-ltb a (suc lo) low) (omega (arith, leb-true a hi below))
 element-inside zero hi (negsuc a) h = absurd (false≢true h)
 element-inside (suc lo) hi (negsuc a) h = absurd (false≢true h)
 
@@ -75,25 +77,11 @@ element-cell v z c h = go (v .declared .bounds) refl
         → cond b (some (record { 0 = v .first + natAbs (z -ℤ pos lo) })) none ≡ some c → CellOf v c
     among lo hi e true t h =
         record { at = natAbs (z -ℤ pos lo); inside = rw e (element-inside lo hi z t); is = ap (λ (x : Cell). x .0) (sym (Option·some-inj .0 h)) }
-    among lo hi e false t h = absurd (Option·none-ne-some c h)
+    among lo hi e false t h = none-some h
 
     go : (b : Bounds) → v .declared .bounds ≡ b → CellOf v c
-    go single e = absurd (Option·none-ne-some c (rw e at h))
+    go single e = none-some (rw e at h)
     go (array p lo q hi) e = among lo hi (rw e) (leZ (pos lo) z && leZ z (pos hi)) refl (rw e at h)
-
--- ---- lists
-
-module _ {A : Type 0} where
-  -- n times a, then t: one of the first n is a
-  copies-front : (n : ℕ) (a : A) (t : List A) (i : ℕ) → i < n → getElem? (replicate n a ++ t) i ≡ some a
-  copies-front zero a t i h = absurd (not-suc-le-zero h)
-  copies-front (suc n) a t zero h = refl
-  copies-front (suc n) a t (suc i) h = copies-front n a t i (le-of-suc-le-suc h)
-
-  -- and behind them stands t
-  copies-behind : (n : ℕ) (a : A) (t : List A) (i : ℕ) → getElem? (replicate n a ++ t) (n + i) ≡ getElem? t i
-  copies-behind zero a t i = rw zero-add
-  copies-behind (suc n) a t i = rw suc-add (copies-behind n a t i)
 
 -- ---- the variable of a name
 
@@ -105,7 +93,7 @@ Found n v k (d ∷ ds) = ((sameBytes n (d .name) ≡ true) × (v ≡ record { de
 -- what `find` answers
 found : (n : Name) (v : Variable) (k : ℕ) (ds : List Declared) → find n (placed k ds) ≡ some v → Found n v k ds
 unfolding find placed
-found n v k [] h = absurd (Option·none-ne-some v h)
+found n v k [] h = none-some h
 found n v k (d ∷ ds) h = go (sameBytes n (d .name)) refl h (found n v (k + sizeOf (d .bounds)) ds)
   where
     go : (b : Bool) → sameBytes n (d .name) ≡ b
@@ -202,24 +190,16 @@ total-printed : (ds : List Declared) → total (printed ds) ≡ total ds
 unfolding printed
 total-printed ds = simp total-append (total-kinds ds)
 
--- no place in a list of places: the test fails, and the rest is empty
-no-fault : (p : ℕ) (b : Bool) (r : List ℕ) → at p b ++ r ≡ [] → (b ≡ false) × (r ≡ [])
-no-fault p true r h = absurd (cons≢nil h)
-no-fault p false r h = (refl, h)
-
-or-right : (a b : Bool) → (a || b) ≡ false → b ≡ false
-or-right true b h = absurd (true≢false h)
-or-right false b h = h
-
 -- declarations without a fault, behind n cells: there is no 65th
 no-65th : (before : List Name) (n : ℕ) (ds : List Declared) → n ≤ 64 → declarationFaults before n ds ≡ [] → n + total ds ≤ 64
 unfolding declarationFaults total
 no-65th before n [] k h = omega arith
 no-65th before n (d ∷ ds) k h =
     let m : ℕ = n + sizeOf (d .bounds) in
-    let both = no-fault (d .place) (isAmong (d .name) before || reversed (d .bounds) || ltb 64 m) (declarationFaults (d .name ∷ before) m ds) h in
-    let fits : m ≤ 64 = ltb-false 64 m (or-right (isAmong (d .name) before || reversed (d .bounds)) (ltb 64 m) (both .0)) in
-    omega (arith, no-65th (d .name ∷ before) m ds fits (both .1))
+    let other : Bool = isAmong (d .name) before || reversed (d .bounds) in
+    let (own, rest) = no-fault (at (d .place) (other || ltb 64 m)) (declarationFaults (d .name ∷ before) m ds) h in
+    let fits : m ≤ 64 = ltb-false 64 m (or-false other (ltb 64 m) (no-fault-at (d .place) (other || ltb 64 m) own) .1) in
+    omega (arith, no-65th (d .name ∷ before) m ds fits rest)
 
 -- ---- of a program's variables
 

@@ -1,38 +1,28 @@
 -- IF and CASE: their plain forms mean what they do as written.
-use mathlib.Core.Path.{_≡_, refl, sym, ap, _∙_, subst}
-use mathlib.Core.Bool.{Bool, true, false, not, cond, _&&_, _||_, true≢false}
-use mathlib.Core.Option.{Option, none, some}
-use mathlib.Core.List.{List, [], _∷_, _++_}
-use Prim.Native.Nat.{ℕ, zero, suc, _+_, _<_, _≤_}
+use mathlib.Core.Path.{_≡_, refl, _∙_}
+use mathlib.Core.Bool.{Bool, true, false}
+use mathlib.Core.Option.{Option, some}
+use mathlib.Core.List.{List, []}
+use Prim.Native.Nat.{ℕ}
 use native.Mathlib.Omega.{arith}
-use lib.Dec.{eqb, eqb→eq}
-use lib.IntN.{ℤ, pos, _+ℤ_, _-ℤ_, natAbs}
-use lib.ListN.{length, getD, set, length-set, getElem?}
-use Rattle.paper.specs.declared.Ty.{Ty}
-use Rattle.paper.specs.declared.Ty.the-variants.{Bool as BOOL, Int as INT, Uint as UINT, Dint as DINT, Udint as UDINT}
-use Rattle.paper.specs.declared.Cell.{Cell}
-use Rattle.paper.specs.Refusals.{Answer, refused, given}
-use Rattle.paper.specs.Types.{isInteger, forNumbers, encode, decode}
-use Rattle.paper.specs.Words.{sameBytes}
+use lib.IntN.{ℤ, pos}
+use lib.ListN.{length}
+use Rattle.paper.specs.declared.Ty.the-variants.{Bool as BOOL, Dint as DINT}
+use Rattle.paper.specs.Refusals.{given}
+use Rattle.paper.specs.Types.{isInteger, decode, isTrue}
 use Rattle.paper.specs.Source as S
 use Rattle.paper.specs.Source.{Name, Declared}
-use Rattle.paper.specs.Names.{Variable, Info, variablesOf, cellsOf, find, isAmong, assigned}
-use Rattle.paper.specs.Typing.{numbers, judged, labelsFaults, settled, demandFaults, assignFaults, typeIn}
-use Rattle.paper.specs.Plain.{Expr, number, Stmts, done, assign, choice, State, Ran, look, valueOf, run, weight, assigns, parts, carried, tested, _⨾_}
+use Rattle.paper.specs.Typing.{labelsFaults, settled, demandFaults, typeIn}
+use Rattle.paper.specs.Plain.{Expr, done, choice, State, Ran, valueOf, run, weight, assigns, parts, tested, cellsWithin}
 use Rattle.paper.specs.Meaning as M
-use Rattle.paper.specs.Meaning.{variableCell, cellOfVariable, _>>=_}
+use Rattle.paper.specs.Meaning.{_>>=_}
 use Rattle.paper.specs.Unwinding.{Unwound, Selector, noSelector, plainOf, testsOf}
-use Rattle.demands.proofs.Typed.{Typed, WellTyped}
-use Rattle.demands.proofs.PlainRuns.{run-⨾, assigns-⨾, weight-⨾, welltyped-⨾, run-keeps, run-length}
-use Rattle.demands.proofs.Cells.{infoOf, CellOf, sameBytes-eq, variable-cell, find-info, find-apart}
-use Rattle.demands.proofs.Answers.{Heavier, bind-some}
-use Rattle.demands.proofs.Fits.{demand-none}
-use Rattle.demands.proofs.Expressions.{Agree, Faultless, PlainForm, settled-type, plain-form}
-use Rattle.demands.proofs.Targets.{aims, aimed}
-use Rattle.paper.specs.Types.{isTrue}
-use Rattle.paper.specs.Plain.{cellsWithin}
+use Rattle.demands.proofs.Answers.{Heavier}
+use Rattle.demands.proofs.Typed.{Typed}
+use Rattle.demands.proofs.PlainRuns.{taken}
 use Rattle.demands.proofs.CaseTests.{tests-match, tests-typed}
-use Rattle.demands.proofs.Means.{Vars, Infos, selected, Keeps, Means, none-selected, anywhere}
+use Rattle.demands.proofs.Expressions.{Agree, Faultless, PlainForm, plain-form}
+use Rattle.demands.proofs.Means.{Vars, Infos, selected, Means, none-selected, restated, anywhere}
 use Rattle.demands.proofs.Assignments.{demanded}
 
 -- one of two runs, by a test
@@ -40,7 +30,7 @@ abbrev pub branched : Bool → (Ran → Option Ran) → (Ran → Option Ran) →
 branched t f g r = elim t [ true ↦ f (tested r) | false ↦ g (tested r) ]
 
 branch-same : (t : Bool) (f g : Ran → Option Ran) (r x y : Ran) → f (tested r) ≡ some x → g (tested r) ≡ some y
-    → branched t f g r ≡ some (elim t [ true ↦ x | false ↦ y ])
+    → branched t f g r ≡ some (taken t x y)
 branch-same true f g r x y h k = h
 branch-same false f g r x y h k = k
 
@@ -113,13 +103,7 @@ module _ (ds : List Declared) (loops : List Name) (env : State) (sel : Selector)
       → Means ds loops env sel z (λ r. M.wholeValue (Vars ds) (r .state) DINT e >>= λ y. G y r) w x
   unfolding M.wholeValue
   select-means p e v G w x f hv arms =
-      let any = arms (pos 0) in
-      record {
-        same = λ r l g s.
-            rw (plain-form ds loops env (r .state) g DINT e v f hv .same)
-            (arms (decode (typeIn (Vars ds) DINT e) (valueOf (r .state) v)) .same r l g refl);
-        typed = any .typed;
-        keeps = any .keeps;
-        weighed = any .weighed;
-        light = any .light;
-      }
+      restated (arms (pos 0))
+      (λ r l g s.
+      rw (plain-form ds loops env (r .state) g DINT e v f hv .same)
+      (arms (decode (typeIn (Vars ds) DINT e) (valueOf (r .state) v)) .same r l g refl))

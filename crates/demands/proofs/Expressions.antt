@@ -1,17 +1,16 @@
 -- An expression without faults: its plain form has a type, and the value that the expression has as written.
-use mathlib.Core.Path.{_≡_, refl, sym}
-use mathlib.Core.Bool.{Bool, true, false, cond, _&&_, false≢true, and-eq-true-iff}
+use mathlib.Core.Path.{_≡_, refl, sym, ap, _∙_}
+use mathlib.Core.Bool.{Bool, true, false, cond, _&&_, false≢true}
 use mathlib.Core.Option.{Option, none, some}
 use mathlib.Core.List.{List, []}
 use Prim.Native.Nat.{ℕ}
-use native.Mathlib.Omega.{arith}
 use lib.IntN.{ℤ}
 use lib.ListN.{getElem?}
 use Rattle.paper.specs.declared.Ty.{Ty}
 use Rattle.paper.specs.declared.Op.{Op}
 use Rattle.paper.specs.declared.Ty.the-variants.{Bool as BOOL, Dint as DINT}
 use Rattle.paper.specs.declared.Cell.{Cell}
-use Rattle.paper.specs.Refusals.{Answer, refused, given, _>>=_}
+use Rattle.paper.specs.Refusals.{given, _>>=_}
 use Rattle.paper.specs.Types.{signed, isInteger, fits, divides, decode, apply}
 use Rattle.paper.specs.Source as S
 use Rattle.paper.specs.Source.{Name, Declared}
@@ -20,11 +19,13 @@ use Rattle.paper.specs.Typing.{Judged, numbers, isZero, typeOf, typeOfName, jud
 use Rattle.paper.specs.Plain.{Expr, number, truth, read, minus, complement, binary, conversion, State, look, valueOf}
 use Rattle.paper.specs.Meaning as M
 use Rattle.paper.specs.Meaning.{variableCell, elementCell, cellOfVariable, cellOfElement, operate, value, wholeValue, cellOf}
-use Rattle.paper.specs.Unwinding.{found, cellIn, plainOf}
+use Rattle.paper.specs.Unwinding.{cellIn, plainOf}
+use Rattle.demands.proofs.Truths.{and-true}
+use Rattle.demands.proofs.Answers.{given-same, bind-given, bind-some, found-given}
 use Rattle.demands.proofs.Typed.{Typed, NonZero}
+use Rattle.paper.proofs.Residues.{decode-encode}
 use Rattle.demands.proofs.Cells.{infoOf, CellOf, variable-cell, element-cell, find-info}
-use Rattle.demands.proofs.Residues.{decode-encode}
-use Rattle.demands.proofs.Judgements.{binary-type}
+use Rattle.demands.proofs.Judgements.{found-type, binary-type}
 use Rattle.demands.proofs.Fits.{Fit, Divisor, Operands, Converted, Fits, fit-type, fit-number, fit-element, fit-minus, fit-complement, fit-binary, fit-conversion, fit-brackets}
 
 -- two states agree on the variables of the FORs around
@@ -57,8 +58,8 @@ constant-same vs loops env s g t (S.element p n q i) h = absurd (false≢true h)
 constant-same vs loops env s g t (S.minus p e) h = rw (constant-same vs loops env s g t e h) refl
 constant-same vs loops env s g t (S.complement p e) h = absurd (false≢true h)
 constant-same vs loops env s g t (S.binary p o l r) h =
-    let (two, right) = and-eq-true-iff (isScanOp o && isConstant loops l) (isConstant loops r) .0 h in
-    let (scan, left) = and-eq-true-iff (isScanOp o) (isConstant loops l) .0 two in
+    let (two, right) = and-true (isScanOp o && isConstant loops l) (isConstant loops r) h in
+    let (scan, left) = and-true (isScanOp o) (isConstant loops l) two in
     let u : Ty = operandType vs t o l r in
     rw (constant-same vs loops env s g u l left, constant-same vs loops env s g u r right) refl
 constant-same vs loops env s g t (S.conversion p u v e) h = rw (constant-same vs loops env s g u e h) refl
@@ -80,31 +81,6 @@ settled-type vs loops t e h = fit-type vs loops t e (fit-of vs loops t e h)
 pub record PlainForm (vs : List Variable) (s : State) (t : Ty) (e : S.Expr) (x : Expr) : Type 0 where
   pub typed : Typed (cellsOf vs) x (typeIn vs t e)
   pub same : value vs s t e ≡ some (valueOf s x)
-
--- ---- answers taken apart
-
--- what holds of what two stages give together holds of their answer
-two-given : {A B C : Type 0} (P : C → Type 0) (a : Answer A) (b : Answer B) (f : A → B → C) (z : C)
-    → (a >>= λ x. b >>= λ y. given (f x y)) ≡ given z
-    → ((x : A) (y : B) → a ≡ given x → b ≡ given y → P (f x y))
-    → P z
-two-given P (refused w p) b f z h k = let o : _≡_ {A = ℕ} 0 1 = cc in absurd (omega arith)
-two-given P (given x) (refused w p) f z h k = let o : _≡_ {A = ℕ} 0 1 = cc in absurd (omega arith)
-two-given P (given x) (given y) f z h k = let e : f x y ≡ z = cc in rw e at (k x y refl refl)
-
-one-given : {A B : Type 0} (P : B → Type 0) (a : Answer A) (f : A → B) (z : B) → (a >>= λ x. given (f x)) ≡ given z
-    → ((x : A) → a ≡ given x → P (f x))
-    → P z
-one-given P a f z h k = two-given P (given (tt {0})) a (λ u. f) z h (λ u x e. k x)
-
-found-some : {A : Type 0} (p : ℕ) (o : Option A) (x : A) → found p o ≡ given x → o ≡ some x
-found-some p none x h = let z : _≡_ {A = ℕ} 0 1 = cc in absurd (omega arith)
-found-some p (some y) x h = cc
-
-bound-some : {A B : Type 0} (o : Option A) (f : A → Option B) (y : B) → M._>>=_ o f ≡ some y
-    → (x : A) × (o ≡ some x) × (f x ≡ some y)
-bound-some none f y h = let z : _≡_ {A = ℕ} 0 1 = cc in absurd (omega arith)
-bound-some (some x) f y h = (x, refl, h)
 
 -- ---- the plain form of each kind of expression, from those of its parts
 
@@ -180,14 +156,13 @@ module _ (vs : List Variable) (s : State) (a : Placed vs) where
   -- a cell of a variable has the variable's type
   cell-typed : (n : Name) (v : Variable) (c : Cell) → find n vs ≡ some v → CellOf v c
       → Typed (cellsOf vs) (read c) (typeOfName vs n)
-  unfolding typeOfName
-  cell-typed n v c f h = (infoOf v, a n v f c h, rw (f, typeOfName) refl)
+  cell-typed n v c f h = (infoOf v, a n v f c h, sym (found-type vs n v f))
 
   variable-form : (t : Ty) (p : ℕ) (n : Name) (c : Cell) → variableCell vs n ≡ some c
       → PlainForm vs s t (S.variable p n) (read c)
   unfolding value valueOf typeIn typeOf
   variable-form t p n c h =
-      let (v, f, k) = bound-some (find n vs) cellOfVariable c h in
+      let (v, f, k) = bind-some (find n vs) cellOfVariable c h in
       record { typed = cell-typed n v c f (variable-cell v c k); same = rw h refl }
 
   element-form : (t : Ty) (p : ℕ) (n : Name) (q : ℕ) (i : S.Expr) (c : Cell)
@@ -195,8 +170,8 @@ module _ (vs : List Variable) (s : State) (a : Placed vs) where
       → PlainForm vs s t (S.element p n q i) (read c)
   unfolding value valueOf typeIn typeOf wholeValue
   element-form t p n q i c h =
-      let (z, w, k) = bound-some (wholeValue vs s DINT i) (λ z. M._>>=_ (find n vs) (λ v. cellOfElement v z)) c h in
-      let (v, f, m) = bound-some (find n vs) (λ v. cellOfElement v z) c k in
+      let (z, w, k) = bind-some (wholeValue vs s DINT i) (λ z. M._>>=_ (find n vs) (λ v. cellOfElement v z)) c h in
+      let (v, f, m) = bind-some (find n vs) (λ v. cellOfElement v z) c k in
       record { typed = cell-typed n v c f (element-cell v z c m); same = rw h refl }
 
 -- ---- all of an expression
@@ -211,32 +186,35 @@ module _ (vs : List Variable) (a : Placed vs) (loops : List Name) (env s : State
       let e : x ≡ truth b = cc in
       rw e (record { typed = refl; same = refl })
   fit-form t (S.variable p n) x h k =
-      one-given (PlainForm vs s t (S.variable p n)) (cellIn vs env (S.variable p n)) read x k
-      λ c f. variable-form vs s a t p n c (found-some p (variableCell vs n) c f)
+      let (c, f, e) = bind-given (cellIn vs env (S.variable p n)) (λ c. given (read c)) x k in
+      rw (← given-same e) (variable-form vs s a t p n c (found-given p (variableCell vs n) c f))
   fit-form t (S.element p n q i) x h k =
-      one-given (PlainForm vs s t (S.element p n q i)) (cellIn vs env (S.element p n q i)) read x k
-      λ c f. element-form vs s a t p n q i c
-      (rw (constant-whole vs loops env s g DINT i (fit-element vs loops t p n q i h)) at (found-some q (cellOf vs env (S.element p n q i)) c f))
+      let (c, f, e) = bind-given (cellIn vs env (S.element p n q i)) (λ c. given (read c)) x k in
+      let same = constant-whole vs loops env s g DINT i (fit-element vs loops t p n q i h) in
+      let cell = sym (ap (elementCell vs n) same) ∙ found-given q (cellOf vs env (S.element p n q i)) c f in
+      rw (← given-same e) (element-form vs s a t p n q i c cell)
   fit-form t (S.minus p e) x h k =
       let (fit, sign) = fit-minus vs loops t p e h in
-      one-given (PlainForm vs s t (S.minus p e)) (plainOf vs env t e) (minus (typeIn vs t e)) x k
-      λ y f. minus-form vs s t p e y sign (fit-form t e y fit f)
+      let (y, f, k′) = bind-given (plainOf vs env t e) (λ y. given (minus (typeIn vs t e) y)) x k in
+      rw (← given-same k′) (minus-form vs s t p e y sign (fit-form t e y fit f))
   fit-form t (S.complement p e) x h k =
       let (fit, type) = fit-complement vs loops t p e h in
-      one-given (PlainForm vs s t (S.complement p e)) (plainOf vs env DINT e) complement x k
-      λ y f. complement-form vs s t p e y type (fit-form DINT e y fit f)
+      let (y, f, k′) = bind-given (plainOf vs env DINT e) (λ y. given (complement y)) x k in
+      rw (← given-same k′) (complement-form vs s t p e y type (fit-form DINT e y fit f))
   fit-form t (S.binary p o l r) x h k =
       let u : Ty = operandType vs t o l r in
       let m : Operands vs u o l r (judged vs loops l) (judged vs loops r) = fit-binary vs loops t p o l r h in
-      two-given (PlainForm vs s t (S.binary p o l r)) (plainOf vs env u l) (plainOf vs env u r) (binary o u) x k
-      λ y z f f′. binary-form vs s t p o l r _ _ y z m
+      let (y, f, k′) = bind-given (plainOf vs env u l) (λ y. plainOf vs env u r >>= λ z. given (binary o u y z)) x k in
+      let (z, f′, k″) = bind-given (plainOf vs env u r) (λ z. given (binary o u y z)) x k′ in
+      rw (← given-same k″)
+      (binary-form vs s t p o l r _ _ y z m
       (λ d. divisor-form vs s loops env u r z (m .divisor d) (m .right .fit) f′)
       (fit-form u l y (m .left .fit) f)
-      (fit-form u r z (m .right .fit) f′)
+      (fit-form u r z (m .right .fit) f′))
   fit-form t (S.conversion p u v e) x h k =
       let c : Converted vs u v e (judged vs loops e) = fit-conversion vs loops t p u v e h in
-      one-given (PlainForm vs s t (S.conversion p u v e)) (plainOf vs env u e) (conversion u v) x k
-      λ y f. conversion-form vs s t p u v e y _ c (fit-form u e y (c .fit) f)
+      let (y, f, k′) = bind-given (plainOf vs env u e) (λ y. given (conversion u v y)) x k in
+      rw (← given-same k′) (conversion-form vs s t p u v e y _ c (fit-form u e y (c .fit) f))
   fit-form t (S.brackets p e) x h k =
       let f : PlainForm vs s t e x = fit-form t e x (fit-brackets vs loops t p e h) k in
       record { typed = f .typed; same = f .same }

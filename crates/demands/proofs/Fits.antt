@@ -1,10 +1,10 @@
 -- Expressions without faults, taken apart: what typing asked of the parts of each, and their types.
 use mathlib.Core.Path.{_≡_, refl, sym, _∙_}
-use mathlib.Core.Bool.{Bool, true, false, not, cond, _&&_, false≢true, and-eq-true-iff}
+use mathlib.Core.Bool.{Bool, true, false, not, cond, _&&_, false≢true}
 use mathlib.Core.Option.{Option, none, some}
 use mathlib.Core.List.{List, [], _∷_, _++_}
 use Prim.Native.Nat.{ℕ}
-use native.Mathlib.Omega.{arith}
+use borrow.Author.Tests.{not-true}
 use lib.IntN.{ℤ}
 use Rattle.paper.specs.declared.Ty.{Ty}
 use Rattle.paper.specs.declared.Ty.the-variants.{Bool as BOOL, Dint as DINT}
@@ -13,7 +13,10 @@ use Rattle.paper.specs.Types.{signed, sameTy, isInteger, fits, Sort, arithmetic
 use Rattle.paper.specs.Source.{Name, Expr, number, truth, variable, element, minus, complement, binary, conversion, brackets}
 use Rattle.paper.specs.Names.{Variable, at}
 use Rattle.paper.specs.Typing.{Judged, faulty, numbers, typed, unless, isZero, divisorFault, isGoodDivisor, numberFaults, Settled, settle, isConstant, demandFaults, negated, operated, joined, subscriptFaults, typeOfName, ofElement, judged, typeOf, typeIn, operandType}
-use Rattle.demands.proofs.Judgements.{no-fault, append-none, or-else-none, at-none, test-passed, not-true, unless-none, same-eq, integer-numbers, numbers-integer, Tells, conversionFaults, Operated, operated-none, by-name, judged-tells, type-in, operand-type}
+use Rattle.demands.proofs.Truths.{and-true}
+use Rattle.demands.proofs.Answers.{cons-nil, no-fault₃, no-fault-else, no-fault-at, test-passed}
+use Rattle.demands.proofs.TypeFacts.{same-eq, integer-numbers, numbers-integer}
+use Rattle.demands.proofs.Judgements.{unless-none, Tells, conversionFaults, Operated, operated-none, by-name, judged-tells, type-in, operand-type}
 
 -- e, judged j, has no fault where t is offered, and t is an integer type where it is needed
 pub record Fit (t : Ty) (e : Expr) (j : Judged) : Type 0 where
@@ -28,22 +31,18 @@ unfolding numberFaults
 fit-number t p z h =
     rw (integer-numbers t (h .offered refl)) at (test-passed p (fits (forNumbers t) z) (h .none-found))
 
--- an expression with a type of its own takes none
-not-numbers : {A : Type 0} {u : Ty} → typed u ≡ numbers → A
-not-numbers h = let z : _≡_ {A = ℕ} 0 1 = cc in absurd (omega arith)
-
 negated-fit : (o : Option Ty) (t : Ty) (p : ℕ) (e : Expr) (j : Judged) → Tells o j
     → Fit t (minus p e) (negated p j)
     → Fit t e j × (signed (settle t e j .ty) ≡ true)
 unfolding numberFaults
 negated-fit o t p e (faulty []) g h = absurd g
-negated-fit o t p e (faulty (q ∷ ps)) g h = no-fault (h .none-found)
+negated-fit o t p e (faulty (q ∷ ps)) g h = cons-nil (h .none-found)
 negated-fit o t p e numbers g h =
-    let (part, own) = or-else-none (numberFaults (forNumbers t) e) _ (h .none-found) in
+    let (part, own) = no-fault-else (numberFaults (forNumbers t) e) _ (h .none-found) in
     (record { none-found = part; offered = h .offered }, test-passed p (signed (forNumbers t)) own)
 negated-fit o t p e (typed u) g h =
     let own : at p (not (signed u)) ≡ [] = unless-none t (minus p e) (at p (not (signed u))) u (h .none-found) in
-    (record { none-found = refl; offered = not-numbers }, test-passed p (signed u) own)
+    (record { none-found = refl; offered = λ k. cc }, test-passed p (signed u) own)
 
 brackets-fit : (t : Ty) (p : ℕ) (e : Expr) (j : Judged) → Fit t (brackets p e) j → Fit t e j
 unfolding numberFaults
@@ -62,7 +61,7 @@ pub record Divisor (r : Expr) : Type 0 where
 
 -- an operator that has a divisor has a good one
 good-divisor : (o : Op) (r : Expr) → divides o ≡ true → divisorFault o r ≡ [] → isGoodDivisor o r ≡ true → Divisor r
-good-divisor o (number p z) d f g = record { place = p; value = z; is = refl; nonzero = at-none p (isZero z) (rw d at f) }
+good-divisor o (number p z) d f g = record { place = p; value = z; is = refl; nonzero = no-fault-at p (isZero z) (rw d at f) }
 good-divisor o (truth p b) d f g = absurd (false≢true (rw d at g))
 good-divisor o (variable p n) d f g = absurd (false≢true (rw d at g))
 good-divisor o (element p n q i) d f g = absurd (false≢true (rw d at g))
@@ -102,9 +101,8 @@ numbers-operated : (t : Ty) (p : ℕ) (o : Op) (l r : Expr) → isArithmetic (so
     → Operated o r (settle t l numbers) (settle t r numbers)
 unfolding numberFaults
 numbers-operated t p o l r a i h =
-    let (parts, own) = or-else-none (numberFaults t l ++ numberFaults t r ++ divisorFault o r) _ h in
-    let (sides, divisor) = append-none (numberFaults t l ++ numberFaults t r) (divisorFault o r) parts in
-    let (left, right) = append-none (numberFaults t l) (numberFaults t r) sides in
+    let (parts, own) = no-fault-else (numberFaults t l ++ numberFaults t r ++ divisorFault o r) _ h in
+    let (left, right, divisor) = no-fault₃ (numberFaults t l) (numberFaults t r) (divisorFault o r) parts in
     rw (integer-numbers t i) (record {
       left = left;
       right = right;
@@ -118,7 +116,7 @@ module _ (vs : List Variable) where
   -- the type that typing settled
   settled-in : (t : Ty) (e : Expr) (j : Judged) → Tells (typeOf vs e) j → Fit t e j → settle t e j .ty ≡ typeIn vs t e
   settled-in t e (faulty []) g h = absurd g
-  settled-in t e (faulty (p ∷ ps)) g h = no-fault (h .none-found)
+  settled-in t e (faulty (p ∷ ps)) g h = cons-nil (h .none-found)
   settled-in t e numbers g h = integer-numbers t (h .offered refl) ∙ sym (type-in vs t e none g)
   settled-in t e (typed u) g h = sym (type-in vs t e (some u) g)
 
@@ -154,16 +152,16 @@ module _ (vs : List Variable) where
   joined-fit : (t : Ty) (p : ℕ) (o : Op) (l r : Expr) (j k : Judged) → Tells (typeOf vs l) j → Tells (typeOf vs r) k
       → Fit t (binary p o l r) (joined p o l r j k) → Operands vs (operandType vs t o l r) o l r j k
   joined-fit t p o l r (faulty []) k g h x = absurd g
-  joined-fit t p o l r (faulty (q ∷ ps)) k g h x = no-fault (x .none-found)
+  joined-fit t p o l r (faulty (q ∷ ps)) k g h x = cons-nil (x .none-found)
   joined-fit t p o l r numbers (faulty []) g h x = absurd h
-  joined-fit t p o l r numbers (faulty (q ∷ qs)) g h x = no-fault (x .none-found)
+  joined-fit t p o l r numbers (faulty (q ∷ qs)) g h x = cons-nil (x .none-found)
   joined-fit t p o l r numbers numbers g h x =
       rw (operand-type vs t o l r none none g h) (both-numbers t p o l r (isArithmetic (sortOf o)) refl g h x)
   joined-fit t p o l r numbers (typed u) g h x =
       let y : Operated o r (settle u l numbers) (settle u r (typed u)) = operated-fit t p o l r _ _ (x .none-found) in
       rw (operand-type vs t o l r none (some u) g h) (operands u o l r numbers (typed u) g h (y .same) y)
   joined-fit t p o l r (typed v) (faulty []) g h x = absurd h
-  joined-fit t p o l r (typed v) (faulty (q ∷ qs)) g h x = no-fault (x .none-found)
+  joined-fit t p o l r (typed v) (faulty (q ∷ qs)) g h x = cons-nil (x .none-found)
   joined-fit t p o l r (typed v) numbers g h x =
       rw (operand-type vs t o l r (some v) none g h)
       (operands v o l r (typed v) numbers g h refl (operated-fit t p o l r _ _ (x .none-found)))
@@ -175,7 +173,7 @@ module _ (vs : List Variable) where
 
 pub demand-none : (t : Ty) (p : ℕ) (s : Settled) → demandFaults t p s ≡ [] → (s .faults ≡ []) × (t ≡ s .ty)
 demand-none t p s h =
-    let (part, own) = or-else-none (s .faults) _ h in
+    let (part, own) = no-fault-else (s .faults) _ h in
     (part, same-eq t (s .ty) (test-passed p (sameTy t (s .ty)) own))
 
 -- a conversion of e from t to u
@@ -200,12 +198,12 @@ module _ (vs : List Variable) (loops : List Name) where
   fit-element t p n q i h =
       let s : Settled = settle DINT i (judged vs loops i) in
       let ps : List ℕ = subscriptFaults loops q i s in
-      test-passed q (isConstant loops i) (or-else-none (s .faults) _ (none-in ps (h .none-found)) .1)
+      test-passed q (isConstant loops i) (no-fault-else (s .faults) _ (none-in ps (h .none-found)) .1)
     where
       none-in : (ps : List ℕ) → settle t (element p n q i) (ofElement vs p n ps) .faults ≡ [] → ps ≡ []
       none-in ps =
           by-name vs n (λ j. settle t (element p n q i) j .faults ≡ [] → ps ≡ []) (faulty (p ∷ ps)) (λ u. faulty (p ∷ ps)) (unless ps)
-          no-fault no-fault (unless-none t (element p n q i) ps (typeOfName vs n))
+          cons-nil cons-nil (unless-none t (element p n q i) ps (typeOfName vs n))
 
   pub fit-minus : (t : Ty) (p : ℕ) (e : Expr) → Fits t (minus p e) → Fits t e × (signed (typeIn vs t e) ≡ true)
   unfolding judged
@@ -231,10 +229,10 @@ module _ (vs : List Variable) (loops : List Name) where
   unfolding judged
   fit-conversion v p t u e h =
       let s : Settled = settle t e (judged vs loops e) in
-      let (part, own) = or-else-none (s .faults) _ (unless-none v (conversion p t u e) (conversionFaults p t u s) u (h .none-found)) in
-      let (three, other) = and-eq-true-iff (sameTy t (s .ty) && isInteger t && isInteger u) (not (sameTy t u)) .0 (test-passed p _ own) in
-      let (two, to) = and-eq-true-iff (sameTy t (s .ty) && isInteger t) (isInteger u) .0 three in
-      let (same, from) = and-eq-true-iff (sameTy t (s .ty)) (isInteger t) .0 two in
+      let (part, own) = no-fault-else (s .faults) _ (unless-none v (conversion p t u e) (conversionFaults p t u s) u (h .none-found)) in
+      let (three, other) = and-true (sameTy t (s .ty) && isInteger t && isInteger u) (not (sameTy t u)) (test-passed p _ own) in
+      let (two, to) = and-true (sameTy t (s .ty) && isInteger t) (isInteger u) three in
+      let (same, from) = and-true (sameTy t (s .ty)) (isInteger t) two in
       let fit : Fits t e = record { none-found = part; offered = λ k. from } in
       record {
         fit = fit;

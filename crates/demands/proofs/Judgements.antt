@@ -1,82 +1,24 @@
 -- A judgement and the type of an expression agree; and what a rule asked for where it finds no fault.
-use mathlib.Core.Path.{_≡_, refl, sym, ap, _∙_}
-use mathlib.Core.Bool.{Bool, true, false, not, cond, _&&_, and-eq-true-iff}
+use mathlib.Core.Path.{_≡_, refl}
+use mathlib.Core.Bool.{Bool, true, false, not, cond, _&&_}
 use mathlib.Core.Option.{Option, none, some}
 use mathlib.Core.List.{List, [], _∷_, _++_}
-use Prim.Native.Nat.{ℕ, zero, suc}
-use native.Mathlib.Omega.{arith}
-use borrow.Author.Tests.{eqb-true}
+use Prim.Native.Nat.{ℕ}
 use Rattle.paper.specs.declared.Ty.{Ty}
-use Rattle.paper.specs.declared.Ty.the-variants.{Bool as BOOL, Int as INT, Uint as UINT, Dint as DINT, Udint as UDINT}
+use Rattle.paper.specs.declared.Ty.the-variants.{Bool as BOOL, Dint as DINT}
 use Rattle.paper.specs.declared.Op.{Op}
-use Rattle.paper.specs.Types.{signed, tag, sameTy, isInteger, Sort, arithmetic, order, equality, logic, sortOf, takes, gives, isArithmetic, forNumbers}
+use Rattle.paper.specs.Types.{signed, sameTy, isInteger, Sort, arithmetic, order, equality, logic, sortOf, takes, gives, isArithmetic}
 use Rattle.paper.specs.Source.{Name, Expr, number, truth, variable, element, minus, complement, binary, conversion, brackets, Bounds, single, array}
 use Rattle.paper.specs.Names.{Variable, find, at}
 use Rattle.paper.specs.Typing.{Judged, faulty, numbers, typed, unless, orElse, divisorFault, isGoodDivisor, Settled, settle, demandFaults, negated, operated, joined, subscriptFaults, either, typeOfName, ofName, ofElement, judged, typeOf, typeIn, operandType}
+use Rattle.demands.proofs.Truths.{and-true}
+use Rattle.demands.proofs.Answers.{no-fault₃, no-fault-else, test-passed}
+use Rattle.demands.proofs.TypeFacts.{same-eq}
 
--- ---- lists of faults that are empty
-
--- a list with a fault isn't empty
-pub no-fault : {A : Type 0} {p : ℕ} {ps : List ℕ} → p ∷ ps ≡ [] → A
-no-fault h = let z : _≡_ {A = ℕ} 0 1 = cc in absurd (omega arith)
-
-pub append-none : (ps qs : List ℕ) → ps ++ qs ≡ [] → (ps ≡ []) × (qs ≡ [])
-append-none [] qs h = (refl, h)
-append-none (p ∷ ps) qs h = no-fault h
-
--- neither a part nor the rule itself has a fault
-pub or-else-none : (ps own : List ℕ) → orElse ps own ≡ [] → (ps ≡ []) × (own ≡ [])
-or-else-none [] own h = (refl, h)
-or-else-none (p ∷ ps) own h = no-fault h
-
-pub at-none : (p : ℕ) (b : Bool) → at p b ≡ [] → b ≡ false
-at-none p true h = no-fault h
-at-none p false h = refl
-
--- a test that was asked for
-pub test-passed : (p : ℕ) (b : Bool) → at p (not b) ≡ [] → b ≡ true
-test-passed p true h = refl
-test-passed p false h = no-fault h
-
-pub not-true : (b : Bool) → not b ≡ true → b ≡ false
-not-true true h = sym h
-not-true false h = refl
-
+-- what has a type unless there are faults, and settles without any, had none
 pub unless-none : (t : Ty) (e : Expr) (ps : List ℕ) (u : Ty) → settle t e (unless ps u) .faults ≡ [] → ps ≡ []
 unless-none t e [] u h = refl
 unless-none t e (p ∷ ps) u h = h
-
--- ---- types
-
--- the type of a tag
-ofTag : ℕ → Ty
-ofTag zero = BOOL
-ofTag (suc zero) = INT
-ofTag (suc (suc zero)) = UINT
-ofTag (suc (suc (suc zero))) = DINT
-ofTag (suc (suc (suc (suc n)))) = UDINT
-
-ofTag-tag : (t : Ty) → ofTag (tag t) ≡ t
-unfolding ofTag
-ofTag-tag BOOL = refl
-ofTag-tag INT = refl
-ofTag-tag UINT = refl
-ofTag-tag DINT = refl
-ofTag-tag UDINT = refl
-
-pub same-eq : (t u : Ty) → sameTy t u ≡ true → t ≡ u
-same-eq t u h = sym (ofTag-tag t) ∙ ap ofTag (eqb-true (tag t) (tag u) h) ∙ ofTag-tag u
-
--- where an integer type is offered, numbers take it, and only there
-pub integer-numbers : (t : Ty) → isInteger t ≡ true → forNumbers t ≡ t
-integer-numbers t h = rw h refl
-
-pub numbers-integer : (t : Ty) → forNumbers t ≡ t → isInteger t ≡ true
-numbers-integer t h = rw (← h) (integer (isInteger t) refl)
-  where
-    integer : (b : Bool) → isInteger t ≡ b → isInteger (cond b t DINT) ≡ true
-    integer true e = e
-    integer false e = refl
 
 -- ---- judgements and types agree
 
@@ -117,11 +59,10 @@ pub operated-none : (p : ℕ) (o : Op) (r : Expr) (x y : Settled)
     ≡ []
     → Operated o r x y
 operated-none p o r x y h =
-    let (parts, own) = or-else-none (x .faults ++ y .faults ++ divisorFault o r) _ h in
-    let (sides, divisor) = append-none (x .faults ++ y .faults) (divisorFault o r) parts in
-    let (left, right) = append-none (x .faults) (y .faults) sides in
-    let (kind, good) = and-eq-true-iff (sameTy (x .ty) (y .ty) && takes (sortOf o) (x .ty)) (isGoodDivisor o r) .0 (test-passed p _ own) in
-    let (same, taken) = and-eq-true-iff (sameTy (x .ty) (y .ty)) (takes (sortOf o) (x .ty)) .0 kind in
+    let (parts, own) = no-fault-else (x .faults ++ y .faults ++ divisorFault o r) _ h in
+    let (left, right, divisor) = no-fault₃ (x .faults) (y .faults) (divisorFault o r) parts in
+    let (kind, good) = and-true (sameTy (x .ty) (y .ty) && takes (sortOf o) (x .ty)) (isGoodDivisor o r) (test-passed p _ own) in
+    let (same, taken) = and-true (sameTy (x .ty) (y .ty)) (takes (sortOf o) (x .ty)) kind in
     record { left = left; right = right; same = same-eq (x .ty) (y .ty) same; taken = taken; divisor = divisor; good = good }
 
 -- the type of an operator's result, where o is its operands'
@@ -213,6 +154,10 @@ module _ (vs : List Variable) where
   judged-tells loops (brackets p e) = judged-tells loops e
 
   -- ---- the types of expressions
+
+  pub found-type : (n : Name) (v : Variable) → find n vs ≡ some v → typeOfName vs n ≡ v .declared .ty
+  unfolding typeOfName
+  found-type n v f = rw (f, typeOfName) refl
 
   pub type-in : (t : Ty) (e : Expr) (o : Option Ty) → typeOf vs e ≡ o → typeIn vs t e ≡ elim o [ none ↦ t | some u ↦ u ]
   unfolding typeIn

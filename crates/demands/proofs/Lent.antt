@@ -18,20 +18,10 @@ use Rattle.paper.specs.Types.{tag, sameTy, isInteger}
 use Rattle.paper.specs.Names.{Info}
 use Rattle.paper.specs.Plain.{State}
 use Rattle.paper.specs.Meaning.{_>>=_}
-use Rattle.paper.specs.Tables.{Table, Line, number, read, minus, complement, binary, conversion, select, row, nextState, runTable, isEarlier, lineKeeps, linesKeep, lentOf, types, operation, recordOf, Form, two, to, forms, linesOf, cellRecord, cellRecords, infosOf, nextOf, cellKeeps, cellsKeep, records, tableIn}
-
--- ---- tests that hold together
-
-pub both : {a b : Bool} → a ≡ true → b ≡ true → (a && b) ≡ true
-both p q = rw (p, q)
-
-pub and-left : (a b : Bool) → (a && b) ≡ true → a ≡ true
-and-left true b h = refl
-and-left false b h = h
-
-pub and-right : (a b : Bool) → (a && b) ≡ true → b ≡ true
-and-right true b h = h
-and-right false b h = absurd (false≢true h)
+use Rattle.paper.specs.Tables.{Table, Line, number, read, minus, complement, binary, conversion, select, row, nextState, runTable, isEarlier, lineKeeps, linesKeep, lentOf, operation, recordOf, Form, two, to, forms, linesOf, cellRecord, cellRecords, infosOf, nextOf, cellKeeps, cellsKeep, records, tableIn}
+use Rattle.demands.proofs.Truths.{and-true, both}
+use Rattle.demands.proofs.Answers.{none-some}
+use Rattle.demands.proofs.TypeFacts.{type-back}
 
 -- ---- a row
 
@@ -41,13 +31,6 @@ tag-below INT = lit< tt
 tag-below UINT = lit< tt
 tag-below DINT = lit< tt
 tag-below UDINT = lit< tt
-
-type-back : (t : Ty) → getElem? types (tag t) ≡ some t
-type-back BOOL = refl
-type-back INT = refl
-type-back UINT = refl
-type-back DINT = refl
-type-back UDINT = refl
 
 -- the first record says f, where its operation has the form f
 first-back : (k : ℕ) (f : Form) (t : Ty) (a b c n : ℕ) (rs : List ℕ) → getElem? forms k ≡ some f
@@ -94,16 +77,17 @@ line-back is before (minus t a) n rs h = first-back 2 _ t (a .0) 0 0 n rs refl
 line-back is before (complement t a) n rs h = first-back 3 _ t (a .0) 0 0 n rs refl
 line-back is before (binary o t a b) n rs h = first-back _ (two o) t (a .0) (b .0) 0 n rs (operator-form o t a b)
 line-back is before (conversion t u a) n rs h =
-    let k : (isInteger t && isInteger u) ≡ true = and-left _ (not (sameTy t u)) (and-left _ (isEarlier before t a) h) in
-    first-back _ (to u) t (a .0) 0 0 n rs (conversion-form t u a (and-right (isInteger t) _ k))
+    let (types-fit, earlier) = and-true (isInteger t && isInteger u && not (sameTy t u)) (isEarlier before t a) h in
+    let (integers, other) = and-true (isInteger t && isInteger u) (not (sameTy t u)) types-fit in
+    first-back _ (to u) t (a .0) 0 0 n rs (conversion-form t u a (and-true (isInteger t) (isInteger u) integers .1))
 line-back is before (select t c a b) n rs h = first-back 4 _ t (c .0) (a .0) (b .0) n rs refl
 
 rows-back : (is : List Info) (before ls : List Line) → linesKeep is before ls ≡ true → linesOf (length ls) (records ls) ≡ some ls
 unfolding linesKeep linesOf records
 rows-back is before [] h = refl
 rows-back is before (l ∷ ls) h =
-    let k : linesOf (length ls) (records ls) ≡ some ls = rows-back is (before ++ l ∷ []) ls (and-right (lineKeeps is before l) _ h) in
-    line-back is before l (length ls) (records ls) (and-left _ (linesKeep is (before ++ l ∷ []) ls) h) ∙ rw k
+    let (first, rest) = and-true (lineKeeps is before l) (linesKeep is (before ++ l ∷ []) ls) h in
+    line-back is before l (length ls) (records ls) first ∙ rw (rows-back is (before ++ l ∷ []) ls rest)
 
 -- ---- a cell
 
@@ -117,7 +101,7 @@ Standing rs (i ∷ is) (n ∷ ns) = (isEarlier rs (i .ty) n ≡ true) × Standin
 -- the row that stands for a cell is of its type
 pub standing-at : (rs : List Line) (is : List Info) (ns : List Row) (c : ℕ) (i : Info)
     → Standing rs is ns → getElem? is c ≡ some i → isEarlier rs (i .ty) (getD ns c (row 0)) ≡ true
-standing-at rs [] [] c i h e = let z : _≡_ {A = ℕ} 0 1 = cc in absurd (omega arith)
+standing-at rs [] [] c i h e = none-some e
 standing-at rs [] (n ∷ ns) c i h e = absurd h
 standing-at rs (j ∷ is) [] c i h e = absurd h
 standing-at rs (j ∷ is) (n ∷ ns) zero i h e = let q : j ≡ i = cc in rw q at (h .0)

@@ -1,37 +1,27 @@
--- Unwinding keeps the meaning: the plain statements of a list run as the list does as written, have types, leave the variables of
--- the FORs around alone, and weigh what the walk counted.
-use mathlib.Core.Path.{_≡_, refl, sym, ap, _∙_, subst}
-use mathlib.Core.Bool.{Bool, true, false, not, cond, _&&_, _||_, true≢false}
-use mathlib.Core.Option.{Option, none, some}
-use mathlib.Core.List.{List, [], _∷_, _++_}
-use Prim.Native.Nat.{ℕ, zero, suc, _+_, _<_, _≤_}
+-- What it is for plain statements to mean a run: they run as it does, have types, leave the variables of the FORs around alone, and weigh what was counted.
+use mathlib.Core.Path.{_≡_, refl, sym, ap, _∙_}
+use mathlib.Core.Bool.{Bool, true, false, true≢false}
+use mathlib.Core.Option.{Option, some}
+use mathlib.Core.List.{List}
+use Prim.Native.Nat.{ℕ, _+_, _≤_}
 use native.Mathlib.Omega.{arith}
-use lib.Dec.{eqb, eqb→eq}
-use lib.IntN.{ℤ, pos, _+ℤ_, _-ℤ_, natAbs}
-use lib.ListN.{length, getD, set, length-set, getElem?}
-use Rattle.paper.specs.declared.Ty.{Ty}
-use Rattle.paper.specs.declared.Ty.the-variants.{Bool as BOOL, Int as INT, Uint as UINT, Dint as DINT, Udint as UDINT}
+use borrow.Author.Tests.{ne-eqb}
+use lib.Dec.{eqb}
+use lib.IntN.{ℤ, pos}
+use lib.ListN.{length}
 use Rattle.paper.specs.declared.Cell.{Cell}
-use Rattle.paper.specs.Refusals.{Answer, refused, given}
-use Rattle.paper.specs.Types.{isInteger, forNumbers, encode, decode}
+use Rattle.paper.specs.Types.{encode, decode}
 use Rattle.paper.specs.Words.{sameBytes}
-use Rattle.paper.specs.Source as S
 use Rattle.paper.specs.Source.{Name, Declared}
-use Rattle.paper.specs.Names.{Variable, Info, variablesOf, cellsOf, find, isAmong, assigned}
-use Rattle.paper.specs.Typing.{numbers, judged, settled, demandFaults, assignFaults, typeIn}
-use Rattle.paper.specs.Plain.{Expr, number, Stmts, done, assign, choice, State, Ran, look, valueOf, run, weight, assigns, parts, carried, tested, _⨾_}
-use Rattle.paper.specs.Meaning as M
+use Rattle.paper.specs.Names.{Variable, Info, variablesOf, cellsOf, find, isAmong}
+use Rattle.paper.specs.Plain.{Stmts, State, Ran, valueOf, run, weight, assigns, _⨾_}
 use Rattle.paper.specs.Meaning.{variableCell, cellOfVariable, _>>=_}
-use Rattle.paper.specs.Unwinding.{Unwound, Selector, noSelector, plainOf}
-use Rattle.demands.proofs.Typed.{Typed, WellTyped}
+use Rattle.paper.specs.Unwinding.{Unwound, Selector, noSelector}
+use Rattle.demands.proofs.Answers.{bind-some}
+use Rattle.demands.proofs.Typed.{WellTyped}
+use Rattle.demands.proofs.Cells.{CellOf, sameBytes-eq, variable-cell, find-apart}
 use Rattle.demands.proofs.PlainRuns.{run-⨾, assigns-⨾, weight-⨾, welltyped-⨾, run-keeps, run-length}
-use Rattle.demands.proofs.Cells.{infoOf, CellOf, sameBytes-eq, variable-cell, find-info, find-apart}
-use Rattle.demands.proofs.Answers.{Heavier, bind-some}
-use Rattle.demands.proofs.Fits.{demand-none}
-use Rattle.demands.proofs.Expressions.{Agree, Faultless, PlainForm, settled-type, plain-form}
-use Rattle.demands.proofs.Targets.{aims, aimed}
-
--- ---- what it is for plain statements to mean a run
+use Rattle.demands.proofs.Expressions.{Agree}
 
 abbrev pub Vars : List Declared → List Variable
 Vars ds = variablesOf ds
@@ -47,10 +37,14 @@ selected sel s = decode (sel .ty) (valueOf s (sel .plain))
 abbrev pub Keeps : List Declared → List Name → Stmts → Type 0
 Keeps ds loops p = (n : Name) (c : Cell) → isAmong n loops ≡ true → variableCell (Vars ds) n ≡ some c → assigns p (c .0) ≡ false
 
+-- the run f is that of p, where the states agree on the variables of the FORs around and the selector is worth z
+abbrev pub Runs : List Declared → List Name → State → Selector → ℤ → (Ran → Option Ran) → Stmts → Type 0
+Runs ds loops env sel z f p = (r : Ran) → length (r .state) ≡ length (Infos ds) → Agree (Vars ds) loops env (r .state) → selected sel (r .state) ≡ z
+    → f r ≡ some (run p r)
+
 -- u is what a walk from the weight w gave for the run f, in a CASE whose selector is worth z
 pub record Means (ds : List Declared) (loops : List Name) (env : State) (sel : Selector) (z : ℤ) (f : Ran → Option Ran) (w : ℕ) (u : Unwound) : Type 0 where
-  pub same : (r : Ran) → length (r .state) ≡ length (Infos ds) → Agree (Vars ds) loops env (r .state) → selected sel (r .state) ≡ z
-      → f r ≡ some (run (u .plain) r)
+  pub same : Runs ds loops env sel z f (u .plain)
   pub typed : WellTyped (Infos ds) (u .plain)
   pub keeps : Keeps ds loops (u .plain)
   pub weighed : u .weight ≡ w + weight (length (Infos ds)) (u .plain)
@@ -86,18 +80,21 @@ then {ds} {loops} {env} {sel} {z} {f} {g} {w} {u} {y} a b =
       light = λ h. b .light (a .light h);
     }
 
+-- the same statements mean another run that they run as
+pub restated : {ds : List Declared} {loops : List Name} {env : State} {sel sel′ : Selector} {z z′ : ℤ} {f g : Ran → Option Ran} {w : ℕ} {u : Unwound}
+    → Means ds loops env sel z f w u → Runs ds loops env sel′ z′ g (u .plain) → Means ds loops env sel′ z′ g w u
+restated a same = record { same = same; typed = a .typed; keeps = a .keeps; weighed = a .weighed; light = a .light }
+
 -- the same run, spelled otherwise
 pub respelled : {ds : List Declared} {loops : List Name} {env : State} {sel : Selector} {z : ℤ} {f g : Ran → Option Ran} {w : ℕ} {u : Unwound}
     → ((r : Ran) → Agree (Vars ds) loops env (r .state) → g r ≡ f r)
     → Means ds loops env sel z f w u → Means ds loops env sel z g w u
-respelled e a =
-    record {
-      same = λ r l ag s. e r ag ∙ a .same r l ag s;
-      typed = a .typed;
-      keeps = a .keeps;
-      weighed = a .weighed;
-      light = a .light;
-    }
+respelled e a = restated a (λ r l ag s. e r ag ∙ a .same r l ag s)
+
+-- what needs no selector means the same in any CASE
+pub anywhere : {ds : List Declared} {loops : List Name} {env : State} {sel : Selector} {z : ℤ} {f : Ran → Option Ran} {w : ℕ} {u : Unwound}
+    → Means ds loops env noSelector (pos 0) f w u → Means ds loops env sel z f w u
+anywhere a = restated a (λ r l g s. a .same r l g (none-selected (r .state)))
 
 -- ---- a cell that is none of the FORs' variables
 
@@ -108,29 +105,10 @@ among-apart loops m n h k = go (sameBytes m n) refl
     go false e = e
     go true e = let s = sameBytes-eq m n e in let z : true ≡ false = sym k ∙ rw (← s) h in absurd (true≢false z)
 
-apart-eqb : (a b : ℕ) → ¬ (a ≡ b) → eqb a b ≡ false
-apart-eqb a b h = go (eqb a b) refl
-  where
-    go : (t : Bool) → eqb a b ≡ t → eqb a b ≡ false
-    go false e = e
-    go true e = absurd (h (eqb→eq a b (rw e tt)))
-
 pub free-cell : (ds : List Declared) (loops : List Name) (m : Name) (v : Variable) (c : Cell)
     → find m (Vars ds) ≡ some v → CellOf v c → isAmong m loops ≡ false
     → (n : Name) (d : Cell) → isAmong n loops ≡ true → variableCell (Vars ds) n ≡ some d → eqb (c .0) (d .0) ≡ false
 free-cell ds loops m v c f k free n d a e =
     let g = bind-some (find n (Vars ds)) cellOfVariable d e in
-    apart-eqb (c .0) (d .0)
+    ne-eqb (c .0) (d .0)
     (find-apart ds m n v (g .0) f (g .1) (among-apart loops m n free a) c d k (variable-cell (g .0) d (g .2)))
-
--- what needs no selector means the same in any CASE
-pub anywhere : {ds : List Declared} {loops : List Name} {env : State} {sel : Selector} {z : ℤ} {f : Ran → Option Ran} {w : ℕ} {u : Unwound}
-    → Means ds loops env noSelector (pos 0) f w u → Means ds loops env sel z f w u
-anywhere a =
-    record {
-      same = λ r l g s. a .same r l g (none-selected (r .state));
-      typed = a .typed;
-      keeps = a .keeps;
-      weighed = a .weighed;
-      light = a .light;
-    }

@@ -14,8 +14,10 @@ use Rattle.paper.specs.Types.{width, isTrue}
 use Rattle.paper.specs.Names.{Info}
 use Rattle.paper.specs.Plain.{Expr, number, truth, read, minus, complement, binary, conversion, Stmts, done, assign, choice, State, Ran, carried, tested, valueOf, run, figure, weight, assigns, _⨾_}
 use Rattle.demands.specs.InTypes.{InType, InTypes}
+use Rattle.demands.proofs.Truths.{or-false}
+use Rattle.demands.proofs.Answers.{none-some}
 use Rattle.demands.proofs.Typed.{Typed, WellTyped}
-use Rattle.demands.proofs.Residues.{encode-below, bit-below, apply-below}
+use Rattle.paper.proofs.Residues.{encode-below, bit-below, apply-below}
 
 -- ---- one list behind another
 
@@ -45,40 +47,36 @@ welltyped-⨾ is (choice c a b p) q h k = (h .0, h .1, h .2, welltyped-⨾ is p 
 
 -- ---- what a run keeps
 
+-- of two runs the one that a test takes
+abbrev pub taken : Bool → Ran → Ran → Ran
+taken v x y = elim v [ true ↦ x | false ↦ y ]
+
 -- how far an IF's branch comes
 abbrev branch : Expr → Stmts → Stmts → Ran → Ran
-branch c a b r = elim (isTrue (valueOf (r .state) c)) [ true ↦ run a (tested r) | false ↦ run b (tested r) ]
+branch c a b r = taken (isTrue (valueOf (r .state) c)) (run a (tested r)) (run b (tested r))
 
 -- what holds after either branch holds after the one that runs
 after-branch : (P : Ran → Type 0) (c : Expr) (a b : Stmts) (r : Ran) → P (run a (tested r)) → P (run b (tested r)) → P (branch c a b r)
 after-branch P c a b r h k =
-    elim (isTrue (valueOf (r .state) c)) as (λ t. P (elim t [ true ↦ run a (tested r) | false ↦ run b (tested r) ])) [
+    elim (isTrue (valueOf (r .state) c)) as (λ t. P (taken t (run a (tested r)) (run b (tested r)))) [
       | true ↦ h
       | false ↦ k
     ]
-
--- a cell that two lists don't assign: the first doesn't, nor does the second
-or-left : (a b : Bool) → a || b ≡ false → a ≡ false
-or-left true b h = h
-or-left false b h = refl
-
-or-right : (a b : Bool) → a || b ≡ false → b ≡ false
-or-right true b h = cc
-or-right false b h = h
 
 -- a cell that no assignment names keeps its value
 pub run-keeps : (p : Stmts) (r : Ran) (i : ℕ) → assigns p i ≡ false → getD (run p r .state) i 0 ≡ getD (r .state) i 0
 unfolding run assigns
 run-keeps done r i h = refl
 run-keeps (assign c e k) r i h =
-    let other : i ≡ c .0 → ⊥ = λ q. eqb-false (c .0) i (or-left (eqb (c .0) i) (assigns k i) h) (sym q) in
-    run-keeps k _ i (or-right (eqb (c .0) i) (assigns k i) h) ∙ getD-set-other (r .state) (c .0) i _ 0 other
+    let (apart, nk) = or-false (eqb (c .0) i) (assigns k i) h in
+    run-keeps k _ i nk ∙ getD-set-other (r .state) (c .0) i _ 0 (λ q. eqb-false (c .0) i apart (sym q))
 run-keeps (choice c a b k) r i h =
-    let ab : assigns a i || assigns b i ≡ false = or-left (assigns a i || assigns b i) (assigns k i) h in
-    run-keeps k _ i (or-right (assigns a i || assigns b i) (assigns k i) h)
+    let (nab, nk) = or-false (assigns a i || assigns b i) (assigns k i) h in
+    let (na, nb) = or-false (assigns a i) (assigns b i) nab in
+    run-keeps k _ i nk
     ∙ after-branch (λ x. getD (x .state) i 0 ≡ getD (r .state) i 0) c a b r
-    (run-keeps a (tested r) i (or-left (assigns a i) (assigns b i) ab))
-    (run-keeps b (tested r) i (or-right (assigns a i) (assigns b i) ab))
+    (run-keeps a (tested r) i na)
+    (run-keeps b (tested r) i nb)
 
 pub run-length : (p : Stmts) (r : Ran) → length (run p r .state) ≡ length (r .state)
 unfolding run
@@ -102,7 +100,7 @@ run-steps (choice c a b k) r =
 
 -- a cell's value lies in the cell's type
 in-get : (is : List Info) (s : State) (k : ℕ) (i : Info) → InTypes is s → getElem? is k ≡ some i → InType i (getD s k 0)
-in-get [] [] k i h e = let z : _≡_ {A = ℕ} 0 1 = cc in absurd (omega arith)
+in-get [] [] k i h e = none-some e
 in-get [] (v ∷ s) k i h e = absurd h
 in-get (j ∷ is) [] k i h e = absurd h
 in-get (j ∷ is) (v ∷ s) zero i h e = let q : j ≡ i = cc in rw q at (h .0)

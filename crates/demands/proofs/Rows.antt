@@ -4,13 +4,12 @@ use mathlib.Core.Bool.{Bool, true, false, not, cond, _||_, true≢false}
 use mathlib.Core.Option.{some}
 use mathlib.Core.List.{List, [], _∷_, _++_, map, append-nil}
 use mathlib.Core.Logic.{⊎-elim}
-use mathlib.Mathlib.Data.Bool.Basic.{or-eq-false-eq-eq-false-and-eq-false as neither}
 use Prim.Native.Nat.{ℕ, zero, suc, _+_, _<_, _≤_}
 use native.Mathlib.Nat.{suc-inj, suc-ne-zero, eq-or-lt-of-le}
 use native.Mathlib.Omega.{arith}
-use lib.ListN.{length, getD, set, getElem?, length-append, List·getD-append, List·getD-map}
-use lib.Seq.{getD-at, getD-append-seam, append-snoc}
 use borrow.Author.Tests.{ne-eqb}
+use lib.ListN.{length, getD, set, getElem?, List·getD-map}
+use lib.Seq.{getD-append-seam, append-snoc}
 use Rattle.paper.specs.declared.Ty.{Ty}
 use Rattle.paper.specs.declared.Row.{Row}
 use Rattle.paper.specs.Types.{negate, convert, bit, isTrue, apply}
@@ -18,108 +17,16 @@ use Rattle.paper.specs.Names.{Info}
 use Rattle.paper.specs.Plain as P
 use Rattle.paper.specs.Plain.{Expr, Stmts, State, assigns, parts, count, cellsWithin, weight}
 use Rattle.paper.specs.Tables as T
-use Rattle.paper.specs.Tables.{Line, Made, Bound, row, push, lineValue, values, nextState, runTable, expressionRows, mergeCell, merge, statementRows, reads, rowsFrom, tableOf}
-use Rattle.demands.specs.Trees.{Tree, truth, read, select, treeValue, plug, mergeTrees, symbolic, readsFrom, expressions}
+use Rattle.paper.specs.Tables.{Line, row, values, nextState, runTable, expressionRows, mergeCell, merge, statementRows, reads, rowsFrom, tableOf}
+use Rattle.demands.specs.Trees.{Tree, truth, read, select, treeValue, plug, either, mergeTrees, symbolic, readsFrom, expressions}
+use Rattle.demands.proofs.Truths.{neither}
+use Rattle.demands.proofs.Lists.{length-snoc}
 use Rattle.demands.proofs.Typed.{Typed, WellTyped}
 use Rattle.demands.proofs.PlainRuns.{run-keeps}
 use Rattle.demands.proofs.TreeRuns.{expressions-run}
-
--- ---- the values of rows
-
-length-snoc : {A : Type 0} (xs : List A) (a : A) → length (xs ++ a ∷ []) ≡ suc (length xs)
-length-snoc xs a = omega (arith, length-append xs (a ∷ []))
-
-values-length : (s vals : State) (rs : List Line) → length (values s vals rs) ≡ length vals + length rs
-unfolding values
-values-length s vals [] = omega arith
-values-length s vals (r ∷ rs) = omega (arith, values-length s (vals ++ lineValue s vals r ∷ []) rs, length-snoc vals (lineValue s vals r))
-
--- one more row has one more value, and the rows before keep theirs
-values-push : (s vals : State) (rs : List Line) (l : Line)
-    → values s vals (rs ++ l ∷ []) ≡ values s vals rs ++ lineValue s (values s vals rs) l ∷ []
-unfolding values
-values-push s vals [] l = refl
-values-push s vals (r ∷ rs) l = values-push s (vals ++ lineValue s vals r ∷ []) rs l
-
--- the value of the row number i
-abbrev valueAt : State → List Line → ℕ → ℕ
-valueAt s rs i = getD (values s [] rs) i 0
-
--- more rows: those there keep their values
-record Grows (s : State) (rs more : List Line) : Type 0 where
-  longer : length rs ≤ length more
-  keeps : (i : ℕ) → i < length rs → valueAt s more i ≡ valueAt s rs i
-
--- a row stands for a tree
-record Stands (s : State) (rs : List Line) (r : Row) (t : Tree) : Type 0 where
-  inside : r .0 < length rs
-  is : valueAt s rs (r .0) ≡ treeValue s t
-
--- each cell's row stands for its tree
-data Env (s : State) (rs : List Line) : List Info → List Row → List Tree → Type 0 where
-  empty : Env s rs [] [] []
-  cell : {i : Info} {is : List Info} {r : Row} {env : List Row} {t : Tree} {ρ : List Tree}
-      → Stands s rs r t → Env s rs is env ρ → Env s rs (i ∷ is) (r ∷ env) (t ∷ ρ)
-
--- what is made for an expression, behind the rows rs
-record MadeFor (s : State) (rs : List Line) (x : Made) (t : Tree) : Type 0 where
-  grows : Grows s rs (x .rows)
-  stands : Stands s (x .rows) (x .at) t
-
--- what is made for statements, behind the rows rs
-record BoundTo (s : State) (rs : List Line) (is : List Info) (x : Bound) (ρ : List Tree) : Type 0 where
-  grows : Grows s rs (x .rows)
-  env-stands : Env s (x .rows) is (x .env) ρ
+use Rattle.demands.proofs.RowValues.{Grows, Stands, Env, empty, cell, MadeFor, BoundTo, grows-refl, grows-trans, stands-grown, env-grown, pushed, env-at, env-set}
 
 module _ {s : State} where
-  grows-refl : {rs : List Line} → Grows s rs rs
-  grows-refl = record { longer = omega arith; keeps = λ i h. refl }
-
-  grows-trans : {rs ss ts : List Line} → Grows s rs ss → Grows s ss ts → Grows s rs ts
-  grows-trans g h = record {
-    longer = omega arith;
-    keeps = λ i l. h .keeps i (omega (arith, g .longer)) ∙ g .keeps i l;
-  }
-
-  grows-push : (rs : List Line) (l : Line) → Grows s rs (rs ++ l ∷ [])
-  grows-push rs l = record {
-    longer = omega (arith, length-snoc rs l);
-    keeps = λ i h. ap (λ v. getD v i 0) (values-push s [] rs l) ∙ List·getD-append (values s [] rs) _ 0 i (omega (arith, values-length s [] rs));
-  }
-
-  stands-grown : {rs more : List Line} {r : Row} {t : Tree} → Grows s rs more → Stands s rs r t → Stands s more r t
-  stands-grown {r = r} g h = record { inside = omega arith; is = g .keeps (r .0) (h .inside) ∙ h .is }
-
-  env-grown : {rs more : List Line} {is : List Info} {env : List Row} {ρ : List Tree} → Grows s rs more → Env s rs is env ρ → Env s more is env ρ
-  env-grown g empty = empty
-  env-grown g (cell h e) = cell (stands-grown g h) (env-grown g e)
-
-  -- a row behind others, of a tree's value
-  pushed : {rs ss : List Line} {t : Tree} (l : Line) → Grows s rs ss → lineValue s (values s [] ss) l ≡ treeValue s t → MadeFor s rs (push ss l) t
-  pushed {ss = ss} l g e = record {
-    grows = grows-trans g (grows-push ss l);
-    stands = record {
-      inside = omega (arith, length-snoc ss l);
-      is = ap (λ v. getD v (length ss) 0) (values-push s [] ss l) ∙ getD-at (values s [] ss) _ [] 0 (length ss) (omega (arith, values-length s [] ss)) ∙ e;
-    };
-  }
-
-  -- ---- environments
-
-  -- a cell that exists has a row that stands for its tree
-  env-at : {rs : List Line} {is : List Info} {env : List Row} {ρ : List Tree} → Env s rs is env ρ
-      → (n : ℕ) (i : Info) → getElem? is n ≡ some i → Stands s rs (getD env n (row 0)) (getD ρ n (truth false))
-  env-at empty n i e = let z : _≡_ {A = ℕ} 0 1 = cc in absurd (omega arith)
-  env-at (cell h v) zero i e = h
-  env-at (cell h v) (suc n) i e = env-at v n i e
-
-  -- a cell that is assigned gets the new row and the new tree
-  env-set : {rs : List Line} {is : List Info} {env : List Row} {ρ : List Tree} {r : Row} {t : Tree} → Env s rs is env ρ
-      → (n : ℕ) → Stands s rs r t → Env s rs is (set env n r) (set ρ n t)
-  env-set empty n g = empty
-  env-set (cell h v) zero g = cell g v
-  env-set (cell h v) (suc n) g = cell h (env-set v n g)
-
   -- ---- expressions
 
   -- the row made for an expression stands for its tree
@@ -167,7 +74,7 @@ module _ {s : State} where
   -- the rows behind the statements stand for the trees behind them
   statements-bound : {is : List Info} {env : List Row} {ρ : List Tree} {rs : List Line} (p : Stmts) → WellTyped is p → Env s rs is env ρ
       → BoundTo s rs is (statementRows is p env rs) (symbolic p ρ)
-  unfolding statementRows symbolic
+  unfolding statementRows symbolic either
   statements-bound P.done h v = record { grows = grows-refl; env-stands = v }
   statements-bound (P.assign c e k) h v =
       let x = expression-made e _ (h .0 .2 .1) v in
@@ -244,9 +151,9 @@ module _ (is : List Info) (j : ℕ) (i : Info) (e : getElem? is j ≡ some i) (f
       let apart : c .0 ≡ j → ⊥ = λ q.
       let same : i ≡ h .0 .0 = cc (ap (getElem? is) q, h .0 .1) in
       true≢false (sym f ∙ ap (λ x. x .isInput) same ∙ h .0 .2 .0) in
-      neither _ _ .1 (ne-eqb (c .0) j apart, input-unassigned k (h .1))
+      neither (ne-eqb (c .0) j apart) (input-unassigned k (h .1))
   input-unassigned (P.choice c a b k) h =
-      neither _ _ .1 (neither _ _ .1 (input-unassigned a (h .1), input-unassigned b (h .2)), input-unassigned k (h .3))
+      neither (neither (input-unassigned a (h .1)) (input-unassigned b (h .2))) (input-unassigned k (h .3))
 
 -- a cell that isn't assigned has its value at the start
 unassigned-value : (p : Stmts) (s : State) (n j : ℕ) → length s ≡ n → assigns p j ≡ false

@@ -4,35 +4,29 @@ use mathlib.Core.Bool.{Bool, true, false, not, _||_, false≢true}
 use mathlib.Core.Option.{some}
 use mathlib.Core.List.{List, [], _∷_, _++_, append-nil}
 use Prim.Native.Nat.{ℕ, zero, suc, _≤_}
-use native.Mathlib.Numerals.{add-one}
-use borrow.Author.Tests.{eq-eqb, lt-ltb}
-use lib.ListN.{length, getElem?, length-append}
+use borrow.Author.Tests.{lt-ltb}
+use lib.ListN.{length}
 use lib.Seq.{append-snoc}
 use Rattle.paper.specs.declared.Ty.{Ty}
 use Rattle.paper.specs.declared.Ty.the-variants.{Bool as BOOL}
 use Rattle.paper.specs.declared.Row.{Row}
-use Rattle.paper.specs.Types.{tag, sameTy, encode, bit, divides}
+use Rattle.paper.specs.Types.{encode, bit, divides}
 use Rattle.paper.specs.Names.{Info}
 use Rattle.paper.specs.Plain as P
 use Rattle.paper.specs.Plain.{Stmts, State}
 use Rattle.paper.specs.Tables.{Table, Line, number, read, minus, complement, binary, conversion, select, row, Made, Bound, push, expressionRows, mergeCell, merge, statementRows, reads, rowsFrom, tableOf, runTable, lineType, isEarlier, isDivisor, isCell, lineKeeps, linesKeep, tableIn, lentOf}
+use Rattle.demands.proofs.Truths.{and-true, both}
+use Rattle.demands.proofs.Lists.{length-snoc, at-seam}
+use Rattle.demands.proofs.TypeFacts.{same-refl}
 use Rattle.demands.proofs.Typed.{NonZero, Typed, WellTyped}
-use Rattle.demands.proofs.Residues.{encode-below, bit-below, encode-nonzero}
-use Rattle.demands.proofs.Lent.{both, and-left, and-right, Standing, standing-at, standing-set, back, table-back, run-same}
+use Rattle.paper.proofs.Residues.{encode-below, bit-below, encode-nonzero}
+use Rattle.demands.proofs.Lent.{Standing, standing-at, standing-set, back, table-back, run-same}
 
 -- ---- rows behind rows
 
-same-type : (t : Ty) → sameTy t t ≡ true
-same-type t = eq-eqb (tag t) (tag t) refl
-
--- what stands right behind a list
-at-seam : {A : Type 0} (xs : List A) (y : A) (ys : List A) → getElem? (xs ++ y ∷ ys) (length xs) ≡ some y
-at-seam [] y ys = refl
-at-seam (x ∷ xs) y ys = at-seam xs y ys
-
 -- a line is a row of its type
 row-at : (rs : List Line) (l : Line) (more : List Line) → isEarlier (rs ++ l ∷ more) (lineType l) (row (length rs)) ≡ true
-row-at rs l more = rw (isEarlier, at-seam rs l more) (same-type (lineType l))
+row-at rs l more = rw (isEarlier, at-seam rs l more) (same-refl (lineType l))
 
 -- every row that is earlier in rs is so in qs
 record Grows (rs qs : List Line) : Type 0 where
@@ -55,9 +49,8 @@ snoc-keeps : (is : List Info) (before ls : List Line) (l : Line)
 unfolding linesKeep
 snoc-keeps is before [] l h k = both (rw append-nil at k) refl
 snoc-keeps is before (x ∷ ls) l h k =
-    let g : linesKeep is (before ++ x ∷ []) ls ≡ true = and-right (lineKeeps is before x) _ h in
-    both (and-left (lineKeeps is before x) _ h)
-    (snoc-keeps is (before ++ x ∷ []) ls l g (rw (append-snoc before x ls) k))
+    let (first, rest) = and-true (lineKeeps is before x) (linesKeep is (before ++ x ∷ []) ls) h in
+    both first (snoc-keeps is (before ++ x ∷ []) ls l rest (rw (append-snoc before x ls) k))
 
 -- ---- the rows of an expression
 
@@ -195,7 +188,7 @@ statements-stand is (P.choice c a b q) env rs h k s =
 
 -- a cell's number is behind those before it
 cell-at : (pre : List Info) (t : Info) (ts : List Info) → isCell (pre ++ t ∷ ts) (t .ty) (record { 0 = length pre }) ≡ true
-cell-at pre t ts = rw (isCell, at-seam pre t ts) (same-type (t .ty))
+cell-at pre t ts = rw (isCell, at-seam pre t ts) (same-refl (t .ty))
 
 reads-keep : (pre ts : List Info) (before : List Line) → linesKeep (pre ++ ts) before (reads (length pre) ts) ≡ true
 unfolding reads linesKeep
@@ -203,7 +196,7 @@ reads-keep pre [] before = refl
 reads-keep pre (t ∷ ts) before =
     let l = read (t .ty) (record { 0 = length pre }) in
     both (cell-at pre t ts)
-    (rw (append-snoc pre t ts, length-append pre (t ∷ []), add-one) at (reads-keep (pre ++ t ∷ []) ts (before ++ l ∷ [])))
+    (rw (append-snoc pre t ts, length-snoc pre t) at (reads-keep (pre ++ t ∷ []) ts (before ++ l ∷ [])))
 
 reads-stand : (before : List Line) (ts : List Info) → Standing (before ++ reads (length before) ts) ts (rowsFrom (length before) ts)
 unfolding reads rowsFrom
@@ -211,7 +204,7 @@ reads-stand before [] = tt
 reads-stand before (t ∷ ts) =
     let l = read (t .ty) (record { 0 = length before }) in (
       row-at before l (reads (suc (length before)) ts),
-      rw (length-append before (l ∷ []), add-one, append-snoc before l (reads (suc (length before)) ts)) at (reads-stand (before ++ l ∷ []) ts),
+      rw (length-snoc before l, append-snoc before l (reads (suc (length before)) ts)) at (reads-stand (before ++ l ∷ []) ts),
     )
 
 -- a table that reads back, up to what an input's next row says

@@ -1,47 +1,38 @@
 -- Unwinding keeps the meaning: what a walk gives for a list of statements without faults means what the list does as written.
-use mathlib.Core.Path.{_≡_, refl, sym, ap, _∙_, subst}
-use mathlib.Core.Bool.{Bool, true, false, not, cond, _&&_, _||_, true≢false}
+use mathlib.Core.Path.{_≡_, refl, sym, _∙_}
+use mathlib.Core.Bool.{Bool, true, false, not, _&&_, _||_}
 use mathlib.Core.Option.{Option, none, some}
 use mathlib.Core.List.{List, [], _∷_, _++_}
-use Prim.Native.Nat.{ℕ, zero, suc, _+_, _<_, _≤_}
-use native.Mathlib.Omega.{arith}
-use lib.Dec.{eqb, eqb→eq}
-use lib.IntN.{ℤ, pos, _+ℤ_, _-ℤ_, natAbs}
-use lib.ListN.{length, getD, set, length-set, getElem?}
+use Prim.Native.Nat.{ℕ}
+use borrow.Author.Tests.{not-true, not-false}
+use lib.IntN.{ℤ, pos}
+use lib.ListN.{length, length-set}
 use Rattle.paper.specs.declared.Ty.{Ty}
-use Rattle.paper.specs.declared.Ty.the-variants.{Bool as BOOL, Int as INT, Uint as UINT, Dint as DINT, Udint as UDINT}
+use Rattle.paper.specs.declared.Ty.the-variants.{Bool as BOOL, Dint as DINT}
 use Rattle.paper.specs.declared.Cell.{Cell}
-use Rattle.paper.specs.Refusals.{Answer, refused, given}
-use Rattle.paper.specs.Types.{isInteger, forNumbers, encode, decode}
-use Rattle.paper.specs.Words.{sameBytes}
+use Rattle.paper.specs.Refusals.{given}
+use Rattle.paper.specs.Types.{isInteger, encode, isTrue}
 use Rattle.paper.specs.Source as S
 use Rattle.paper.specs.Source.{Name, Declared}
-use Rattle.paper.specs.Names.{Variable, Info, variablesOf, cellsOf, find, isAmong, assigned}
-use Rattle.paper.specs.Typing.{numbers, judged, settled, demandFaults, assignFaults, typeIn}
-use Rattle.paper.specs.Plain.{Expr, number, Stmts, done, assign, choice, State, Ran, look, valueOf, run, weight, assigns, parts, carried, tested, _⨾_}
-use Rattle.paper.specs.Meaning as M
-use Rattle.paper.specs.Meaning.{variableCell, cellOfVariable, _>>=_}
-use Rattle.paper.specs.Unwinding.{Unwound, Selector, noSelector, plainOf}
-use Rattle.demands.proofs.Typed.{Typed, WellTyped}
-use Rattle.demands.proofs.PlainRuns.{run-⨾, assigns-⨾, weight-⨾, welltyped-⨾, run-keeps, run-length}
-use Rattle.demands.proofs.Cells.{infoOf, CellOf, sameBytes-eq, variable-cell, find-info, find-apart}
-use Rattle.demands.proofs.Answers.{Heavier, bind-some}
-use Rattle.demands.proofs.Fits.{demand-none}
-use Rattle.demands.proofs.Expressions.{Agree, Faultless, PlainForm, constant-whole, settled-type, plain-form}
-use Rattle.demands.proofs.Targets.{aims, aimed}
-use Rattle.paper.specs.Types.{isTrue}
-use Rattle.paper.specs.Plain.{store, cellsWithin}
-use Rattle.paper.specs.Heights.{firstWord}
 use Rattle.paper.specs.Names as N
+use Rattle.paper.specs.Names.{Variable, find, isAmong}
 use Rattle.paper.specs.Typing as T
+use Rattle.paper.specs.Typing.{judged, settled, typeIn}
+use Rattle.paper.specs.Plain.{State, Ran, carried, _⨾_, store}
+use Rattle.paper.specs.Meaning as M
+use Rattle.paper.specs.Meaning.{_>>=_}
 use Rattle.paper.specs.Unwinding as U
-use Rattle.paper.specs.Refusals as R
-use Rattle.demands.proofs.Answers.{given-same, no-fault, no-fault₃, no-fault₄, no-fault-else, no-fault-at, not-false, not-true, or-false, and-true}
-use Rattle.demands.proofs.Walks.{selectorOf, bodyOf, assign-walk, choice-walk, select-walk, arm-walk, loop-walk}
-use Rattle.demands.proofs.Means.{Vars, Infos, selected, Means, none-selected, then, respelled, anywhere}
-use Rattle.demands.proofs.Assignments.{demanded, assign-run, assign-means}
+use Rattle.paper.specs.Unwinding.{Unwound, Selector, noSelector}
+use Rattle.demands.proofs.Truths.{and-true, or-false}
+use Rattle.demands.proofs.Answers.{given-same, no-fault, no-fault₃, no-fault₄, no-fault-else, no-fault-at, test-passed}
+use Rattle.demands.proofs.Typed.{Typed}
+use Rattle.demands.proofs.Cells.{infoOf}
+use Rattle.demands.proofs.Expressions.{Faultless, constant-whole, settled-type, plain-form}
+use Rattle.demands.proofs.Means.{Vars, Infos, Means, then, respelled, anywhere}
+use Rattle.demands.proofs.Assignments.{assign-means}
 use Rattle.demands.proofs.Choices.{branched, if-means, arm-means, select-means}
 use Rattle.demands.proofs.Loops.{LoopVariable, done-means, looped-means}
+use Rattle.demands.proofs.Walks.{selectorOf, bodyOf, assign-walk, choice-walk, select-walk, arm-walk, loop-walk}
 
 -- a selector whose plain form has its type, an integer's
 pub record Selects (ds : List Declared) (sel : Selector) : Type 0 where
@@ -90,7 +81,7 @@ module _ (ds : List Declared) where
       let z = settled (Vars ds) loops t c in
       let bound : S.Expr → T.Settled → Bool = T.isBound loops t in
       let (parts-none, own) = no-fault-else (x .faults ++ y .faults ++ z .faults) (N.at p (not (bound a x && bound b y && bound c z))) h in
-      let (ab, hc) = and-true (bound a x && bound b y) (bound c z) (not-false _ (no-fault-at p _ own)) in
+      let (ab, hc) = and-true (bound a x && bound b y) (bound c z) (test-passed p _ own) in
       let (ha, hb) = and-true (bound a x) (bound b y) ab in
       (and-true (T.isConstant loops a) _ ha .0, and-true (T.isConstant loops b) _ hb .0, and-true (T.isConstant loops c) _ hc .0)
 
@@ -145,7 +136,7 @@ module _ (ds : List Declared) where
       let chosen : Selects ds own =
       record {
         typed = plain-form ds loops env env (λ _ _ _ _. refl) DINT s (x .value) f (x .plain) .typed;
-        integer = rw same at (not-false (isInteger (y .ty)) (no-fault-at p (not (isInteger (y .ty))) integer));
+        integer = rw same at (test-passed p (isInteger (y .ty)) integer);
       } in
       let arms : (i : ℤ) → Means ds loops env own i (M.run vs a i) w (x .arms) =
       λ i. unwinds a loops env own i w (x .arms) chosen long (record { named = n₂; typed = labelled; walk = x .walk-arms }) in

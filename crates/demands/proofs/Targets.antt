@@ -1,21 +1,22 @@
 -- The target of an assignment: the variable whose cell it is, free to be assigned.
 use mathlib.Core.Path.{_≡_, refl, sym, ap, _∙_}
-use mathlib.Core.Bool.{Bool, true, false, not, _||_}
-use mathlib.Core.Option.{Option, none, some}
-use mathlib.Core.List.{List, [], _∷_, _++_}
+use mathlib.Core.Bool.{false, _||_}
+use mathlib.Core.Option.{some}
+use mathlib.Core.List.{List, [], _∷_}
 use Prim.Native.Nat.{ℕ}
-use native.Mathlib.Omega.{arith}
 use lib.IntN.{ℤ}
 use Rattle.paper.specs.declared.Ty.{Ty}
 use Rattle.paper.specs.declared.Ty.the-variants.{Dint as DINT}
 use Rattle.paper.specs.declared.Cell.{Cell}
-use Rattle.paper.specs.Source.{Name, Expr, number, truth, variable, element, minus, complement, binary, conversion, brackets, Bounds, single, array, Declared}
-use Rattle.paper.specs.Names.{Variable, variablesOf, find, isAmong, isInput, assigned}
-use Rattle.paper.specs.Typing.{Judged, faulty, numbers, typed, unless, orElse, judged, ofName, ofElement, subscriptFaults, settle, isConstant, typeOf, typeIn, typeOfName, assignFaults}
+use Rattle.paper.specs.Source.{Name, Expr, number, truth, variable, element, minus, complement, binary, conversion, brackets, Bounds, single, array}
+use Rattle.paper.specs.Names.{Variable, find, isAmong, isInput, assigned}
+use Rattle.paper.specs.Typing.{Judged, typed, unless, judged, ofName, ofElement, subscriptFaults, settle, isConstant, typeOf, typeIn, typeOfName, assignFaults}
 use Rattle.paper.specs.Plain.{State}
-use Rattle.paper.specs.Meaning.{cellOfVariable, cellOfElement, value, wholeValue, cellOf, _>>=_}
+use Rattle.paper.specs.Meaning.{cellOfVariable, cellOfElement, wholeValue, cellOf, _>>=_}
+use Rattle.demands.proofs.Truths.{or-false}
+use Rattle.demands.proofs.Answers.{none-some, bind-some, no-fault, no-fault-else, no-fault-at, test-passed}
 use Rattle.demands.proofs.Cells.{infoOf, CellOf, variable-cell, element-cell}
-use Rattle.demands.proofs.Answers.{none-some, bind-some, no-fault, no-fault-else, no-fault-at, or-false, not-false}
+use Rattle.demands.proofs.Judgements.{found-type}
 use Rattle.demands.proofs.Expressions.{Agree, constant-whole}
 
 -- only a variable that is no array has one cell of its own
@@ -51,27 +52,23 @@ pub record Aims (vs : List Variable) (loops : List Name) (x : Expr) (c : Cell) :
   pub free : isAmong name loops ≡ false
 
 module _ (vs : List Variable) (loops : List Name) where
-  -- the type and the kind of a name that is found
-  pub found-type : (n : Name) (v : Variable) → find n vs ≡ some v → typeOfName vs n ≡ v .declared .ty
-  unfolding typeOfName
-  found-type n v f = rw (f, typeOfName) refl
-
+  -- the kind of a name that is found
   found-input : (n : Name) (v : Variable) → find n vs ≡ some v → isInput vs n ≡ infoOf v .isInput
   unfolding isInput
   found-input n v f = rw (f, isInput) refl
 
-  found-aims : (p : ℕ) (n : Name) (x : Expr) (v : Variable) (c : Cell) → find n vs ≡ some v → CellOf v c
+  found-aims : (n : Name) (x : Expr) (v : Variable) (c : Cell) → find n vs ≡ some v → CellOf v c
       → typeIn vs DINT x ≡ typeOfName vs n
       → (isInput vs n || isAmong n loops) ≡ false
       → Aims vs loops x c
-  found-aims p n x v c f k t h =
+  found-aims n x v c f k t h =
       let both = or-false (isInput vs n) (isAmong n loops) h in
       record {
         name = n;
         var = v;
         found = f;
         cell = k;
-        type = t ∙ found-type n v f;
+        type = t ∙ found-type vs n v f;
         writable = sym (found-input n v f) ∙ both .0;
         free = both .1;
       }
@@ -82,11 +79,11 @@ module _ (vs : List Variable) (loops : List Name) where
   aims env (truth p b) c h a = none-some h
   aims env (variable p n) c h a =
       let f = bind-some (find n vs) cellOfVariable c h in
-      found-aims p n (variable p n) (f .0) c (f .1) (variable-cell (f .0) c (f .2)) refl (no-fault-at p _ a)
+      found-aims n (variable p n) (f .0) c (f .1) (variable-cell (f .0) c (f .2)) refl (no-fault-at p _ a)
   aims env (element p n q i) c h a =
       let i′ = bind-some (wholeValue vs env DINT i) (λ z. find n vs >>= λ v. cellOfElement v z) c h in
       let f = bind-some (find n vs) (λ v. cellOfElement v (i′ .0)) c (i′ .2) in
-      found-aims p n (element p n q i) (f .0) c (f .1) (element-cell (f .0) (i′ .0) c (f .2)) refl (no-fault-at p _ a)
+      found-aims n (element p n q i) (f .0) c (f .1) (element-cell (f .0) (i′ .0) c (f .2)) refl (no-fault-at p _ a)
   aims env (minus p e) c h a = none-some h
   aims env (complement p e) c h a = none-some h
   aims env (binary p o l r) c h a = none-some h
@@ -126,7 +123,7 @@ module _ (vs : List Variable) (loops : List Name) where
   aimed env (variable p n) c q e j h a =
       let f = bind-some (find n vs) cellOfVariable c h in
       record {
-        judged-as = judged-variable p n (f .0) c (f .1) (f .2) ∙ ap typed (sym (found-type n (f .0) (f .1)));
+        judged-as = judged-variable p n (f .0) c (f .1) (f .2) ∙ ap typed (sym (found-type vs n (f .0) (f .1)));
         same-cell = λ s g. h;
       }
   aimed env (element p n p′ i) c q e j h a =
@@ -134,9 +131,9 @@ module _ (vs : List Variable) (loops : List Name) where
       let f = bind-some (find n vs) (λ v. cellOfElement v (i′ .0)) c (i′ .2) in
       let is = judged-element p n p′ i (f .0) (f .1) (array-element (f .0) (i′ .0) c (f .2)) in
       let none-found = faultless-subscript q e j (faultsIn p′ i) (f .0 .declared .ty) (rw is at a) in
-      let constant = not-false (isConstant loops i) (no-fault-at p′ _ (no-fault-else (settle DINT i (judged vs loops i) .faults) _ none-found .1)) in
+      let constant = test-passed p′ (isConstant loops i) (no-fault-else (settle DINT i (judged vs loops i) .faults) _ none-found .1) in
       record {
-        judged-as = is ∙ rw none-found (ap typed (sym (found-type n (f .0) (f .1))));
+        judged-as = is ∙ rw none-found (ap typed (sym (found-type vs n (f .0) (f .1))));
         same-cell = λ s g. rw (← constant-whole vs loops env s g DINT i constant) h;
       }
   aimed env (minus p x) c q e j h a = none-some h

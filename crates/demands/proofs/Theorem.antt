@@ -1,34 +1,33 @@
 -- Demand 3, from acceptance alone.
 use mathlib.Core.Path.{_≡_, refl, sym, ap, _∙_, subst}
 use mathlib.Core.Bool.{Bool, true, false, cond, true≢false}
-use mathlib.Core.Option.{Option, none, some}
+use mathlib.Core.Option.{some}
 use mathlib.Core.List.{List, [], _∷_, map}
-use Prim.Native.Nat.{ℕ, _+_, _≤_}
+use Prim.Native.Nat.{_≤_}
 use native.Mathlib.Omega.{arith}
 use lib.IntN.{pos}
 use lib.ListN.{length, replicate, length-replicate}
-use Rattle.paper.specs.Refusals.{given}
 use Rattle.paper.specs.Source.{Program, Declared}
 use Rattle.paper.specs.Names.{Info, variablesOf, cellsOf, isAmong}
 use Rattle.paper.specs.Plain.{State, Ran, run, figure, weight}
 use Rattle.paper.specs.Meaning as M
 use Rattle.paper.specs.Unwinding.{Unwound, noSelector, unwoundProgram}
-use Rattle.paper.specs.Tables.{Table, tableOf, runTable, tableIn, lentOf}
-use Rattle.paper.specs.Judge.{Sound, judge, putReadings, started, scanDirect, scanPlain, scanTable, tableOfSound, runDirect, runPlain, runByTable}
+use Rattle.paper.specs.Tables.{tableOf, runTable}
+use Rattle.paper.specs.Judge.{Sound, putReadings, started, scanDirect, scanPlain, scanTable, tableOfSound, runDirect, runPlain, runByTable}
 use Rattle.demands.specs.InTypes.{InType, InTypes, ReadingsIn, All}
 use Rattle.demands.specs.Trees.{treeValue, expressions}
 use Rattle.demands.specs.Demand3.{runByExpressions, states, Demand3, Demand3ForAll}
+use Rattle.demands.proofs.Answers.{none-some}
 use Rattle.demands.proofs.Typed.{WellTyped}
-use Rattle.demands.proofs.PlainRuns.{run-steps, run-in-types}
 use Rattle.demands.proofs.Cells.{few-cells}
+use Rattle.demands.proofs.PlainRuns.{run-steps, run-in-types}
+use Rattle.demands.proofs.Expressions.{Agree}
+use Rattle.demands.proofs.Means.{none-selected}
+use Rattle.demands.proofs.Statements.{none-selects, unwinds}
 use Rattle.demands.proofs.TreeRuns.{expressions-run}
 use Rattle.demands.proofs.Rows.{table-runs, table-few}
 use Rattle.demands.proofs.Rule11.{ReadsBack, table-keeps}
-use Rattle.demands.proofs.Answers.{none-some}
-use Rattle.demands.proofs.Expressions.{Agree}
-use Rattle.demands.proofs.Means.{Means, none-selected}
-use Rattle.demands.proofs.Statements.{none-selects, unwinds}
-use Rattle.demands.proofs.Accepted.{soundOf, Accepted, accepted}
+use Rattle.demands.proofs.Accepted.{soundOf, accepted}
 
 -- ---- states
 

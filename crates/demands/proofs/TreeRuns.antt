@@ -2,18 +2,19 @@
 use mathlib.Core.Path.{_≡_, refl, sym, ap, ap₂, _∙_}
 use mathlib.Core.Bool.{Bool, true, false, not, cond, _||_}
 use mathlib.Core.List.{List, [], _∷_, _++_, map}
-use mathlib.Mathlib.Data.Bool.Basic.{or-eq-false-eq-eq-false-and-eq-false as neither}
 use Prim.Native.Nat.{ℕ, zero, suc, _+_}
 use native.Mathlib.Nat.{suc-inj, suc-ne-zero, add-zero, add-suc, suc-add, zero-add}
-use native.Mathlib.Numerals.{add-one}
-use lib.Dec.{eqb}
-use lib.ListN.{length, getD, set, length-set, length-append, List·getD-map}
-use lib.Seq.{getD-set-other, getD-append-seam, append-snoc}
 use borrow.Author.Tests.{eqb-false}
+use lib.Dec.{eqb}
+use lib.ListN.{length, getD, set, length-set, List·getD-map}
+use lib.Seq.{getD-set-other, getD-append-seam, append-snoc}
 use Rattle.paper.specs.Types.{negate, convert, bit, isTrue, apply}
 use Rattle.paper.specs.Plain as P
 use Rattle.paper.specs.Plain.{Expr, Stmts, State, Ran, valueOf, run, assigns}
-use Rattle.demands.specs.Trees.{Tree, truth, select, treeValue, plug, mergeTrees, symbolic, readsFrom, expressions}
+use Rattle.demands.specs.Trees.{Tree, truth, select, treeValue, plug, either, mergeTrees, symbolic, readsFrom, expressions}
+use Rattle.demands.proofs.Truths.{or-false}
+use Rattle.demands.proofs.Lists.{length-snoc, map-set}
+use Rattle.demands.proofs.PlainRuns.{taken}
 
 -- the value of a plugged expression is its value over the trees' values
 pub plug-value : (s : State) (ρ : List Tree) (e : Expr) → treeValue s (plug ρ e) ≡ valueOf (map (treeValue s) ρ) e
@@ -76,7 +77,7 @@ module _ (w : ℕ → Bool) (c : Tree) where
 pub symbolic-length : (p : Stmts) (ρ : List Tree) → length (symbolic p ρ) ≡ length ρ
 unfolding symbolic
 symbolic-length P.done ρ = refl
-symbolic-length (P.assign c e k) ρ = symbolic-length k _ ∙ length-set ρ (c .0) (plug ρ e)
+symbolic-length (P.assign c e k) ρ = symbolic-length k _ ∙ length-set ρ (c .0) _
 symbolic-length (P.choice c a b k) ρ =
     symbolic-length k _
     ∙ merge-length _ _ 0 (symbolic a ρ) (symbolic b ρ) (symbolic-length a ρ ∙ sym (symbolic-length b ρ))
@@ -85,35 +86,36 @@ symbolic-length (P.choice c a b k) ρ =
 branches-length : (a b : Stmts) (ρ : List Tree) → length (symbolic a ρ) ≡ length (symbolic b ρ)
 branches-length a b ρ = symbolic-length a ρ ∙ sym (symbolic-length b ρ)
 
+-- what neither branch assigns, and only that, is passed over in the merge
+neither-assigns : (a b : Stmts) (i : ℕ) → either a b i ≡ false → (assigns a i ≡ false) × (assigns b i ≡ false)
+unfolding either
+neither-assigns a b i h = or-false (assigns a i) (assigns b i) h
+
+passed-over : (a b : Stmts) (i : ℕ) → assigns a i ≡ false → assigns b i ≡ false → either a b i ≡ false
+unfolding either
+passed-over a b i ha hb = rw (ha, hb) refl
+
 -- a cell that no assignment names keeps its tree
 pub symbolic-keeps : (p : Stmts) (ρ : List Tree) (i : ℕ) → assigns p i ≡ false
     → getD (symbolic p ρ) i (truth false) ≡ getD ρ i (truth false)
 unfolding symbolic assigns
 symbolic-keeps P.done ρ i h = refl
 symbolic-keeps (P.assign c e k) ρ i h =
-    let (n, nk) = neither (eqb (c .0) i) (assigns k i) .0 h in
-    symbolic-keeps k _ i nk ∙ getD-set-other ρ (c .0) i (plug ρ e) (truth false) (λ q. eqb-false (c .0) i n (sym q))
+    let (n, nk) = or-false (eqb (c .0) i) (assigns k i) h in
+    symbolic-keeps k _ i nk ∙ getD-set-other ρ (c .0) i _ (truth false) (λ q. eqb-false (c .0) i n (sym q))
 symbolic-keeps (P.choice c a b k) ρ i h =
-    let (nab, nk) = neither (assigns a i || assigns b i) (assigns k i) .0 h in
+    let (nab, nk) = or-false (assigns a i || assigns b i) (assigns k i) h in
+    let (na, nb) = or-false (assigns a i) (assigns b i) nab in
     symbolic-keeps k _ i nk
-    ∙ merge-keeps (λ i. assigns a i || assigns b i) (plug ρ c) 0 (symbolic a ρ) (symbolic b ρ) i (branches-length a b ρ) (rw zero-add nab)
-    ∙ symbolic-keeps a ρ i (neither (assigns a i) (assigns b i) .0 nab .0)
+    ∙ merge-keeps (either a b) (plug ρ c) 0 (symbolic a ρ) (symbolic b ρ) i (branches-length a b ρ) (rw zero-add (passed-over a b i na nb))
+    ∙ symbolic-keeps a ρ i na
 
 -- a cell that neither branch assigns has one tree behind both
-branches-agree : (a b : Stmts) (ρ : List Tree) (i : ℕ) → (assigns a i || assigns b i) ≡ false
+branches-agree : (a b : Stmts) (ρ : List Tree) (i : ℕ) → either a b i ≡ false
     → getD (symbolic a ρ) i (truth false) ≡ getD (symbolic b ρ) i (truth false)
 branches-agree a b ρ i h =
-    let (na, nb) = neither (assigns a i) (assigns b i) .0 h in
+    let (na, nb) = neither-assigns a b i h in
     symbolic-keeps a ρ i na ∙ sym (symbolic-keeps b ρ i nb)
-
-map-set : {A B : Type 0} (f : A → B) (l : List A) (i : ℕ) (a : A) → map f (set l i a) ≡ set (map f l) i (f a)
-map-set f [] i a = refl
-map-set f (x ∷ xs) zero a = refl
-map-set f (x ∷ xs) (suc i) a = ap (λ r. f x ∷ r) (map-set f xs i a)
-
--- the run of the branch that is taken
-abbrev taken : Bool → Ran → Ran → Ran
-taken v x y = elim v [ true ↦ x | false ↦ y ]
 
 taken-state : (v : Bool) (x y : Ran) → cond v (x .state) (y .state) ≡ taken v x y .state
 taken-state true x y = refl
@@ -134,7 +136,7 @@ symbolic-runs s (P.choice c a b k) ρ n =
     let r : Ran = taken v (run a start) (run b start) in
     symbolic-runs s k _ (r .steps)
     ∙ ap (λ x. run k (record { state = x; steps = r .steps }) .state)
-    (merge-value s (plug ρ c) v (λ i. assigns a i || assigns b i) 0 (symbolic a ρ) (symbolic b ρ)
+    (merge-value s (plug ρ c) v (either a b) 0 (symbolic a ρ) (symbolic b ρ)
     (ap isTrue (plug-value s ρ c)) (branches-length a b ρ) (λ i h. branches-agree a b ρ i (rw zero-add at h))
     ∙ ap₂ (cond v) (symbolic-runs s a ρ (suc n)) (symbolic-runs s b ρ (suc n))
     ∙ taken-state v (run a start) (run b start))
@@ -147,7 +149,7 @@ unfolding readsFrom treeValue
 reads-value before [] = refl
 reads-value before (v ∷ s) =
     ap₂ _∷_ (getD-append-seam before v s 0)
-    (rw (append-snoc before v s, length-append before (v ∷ []), add-one) at (reads-value (before ++ v ∷ []) s))
+    (rw (append-snoc before v s, length-snoc before v) at (reads-value (before ++ v ∷ []) s))
 
 pub expressions-run : (s : State) (p : Stmts) (n : ℕ)
     → map (treeValue s) (expressions (length s) p) ≡ run p (record { state = s; steps = n }) .state

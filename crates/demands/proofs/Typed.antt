@@ -1,16 +1,15 @@
 -- ST0 whose expressions have types: what typing gives of an accepted program, and what the table's rules and 'in type' need.
 use mathlib.Core.Path.{_≡_}
-use mathlib.Core.Bool.{Bool, true, false}
+use mathlib.Core.Bool.{true, false}
 use mathlib.Core.Option.{some}
 use mathlib.Core.List.{List}
+use lib.ListN.{getElem?}
 use Rattle.paper.specs.declared.Ty.{Ty}
 use Rattle.paper.specs.declared.Ty.the-variants.{Bool as BOOL}
-use Rattle.paper.specs.declared.Op.{Op}
 use Rattle.paper.specs.Types.{signed, sameTy, isInteger, fits, sortOf, takes, gives, divides}
 use Rattle.paper.specs.Names.{Info}
 use Rattle.paper.specs.Typing.{isZero}
 use Rattle.paper.specs.Plain.{Expr, number, truth, read, minus, complement, binary, conversion, Stmts, done, assign, choice}
-use lib.ListN.{getElem?}
 
 -- a number of its type that is not zero
 abbrev pub NonZero : Expr → Type 0

@@ -3,9 +3,8 @@ use mathlib.Core.Path.{_≡_}
 use mathlib.Core.Option.{some}
 use mathlib.Core.List.{List}
 use Prim.Native.Nat.{ℕ}
-use lib.IntN.{ℤ, pos}
+use lib.IntN.{ℤ}
 use lib.ListN.{length}
-use Rattle.paper.specs.declared.Ty.{Ty}
 use Rattle.paper.specs.declared.Ty.the-variants.{Dint as DINT}
 use Rattle.paper.specs.declared.Cell.{Cell}
 use Rattle.paper.specs.Refusals.{Answer, given, _>>=_}
@@ -13,8 +12,8 @@ use Rattle.paper.specs.Types.{encode}
 use Rattle.paper.specs.Source as S
 use Rattle.paper.specs.Source.{Name}
 use Rattle.paper.specs.Names.{Variable, cellsOf, find}
-use Rattle.paper.specs.Heights.{firstWord}
 use Rattle.paper.specs.Typing.{typeIn}
+use Rattle.paper.specs.Heights.{firstWord}
 use Rattle.paper.specs.Plain.{Expr, assign, choice, done, State, store, parts, cellsWithin, _⨾_}
 use Rattle.paper.specs.Meaning.{cellOfVariable, wholeValue, cellOf}
 use Rattle.paper.specs.Unwinding.{Unwound, unwound, Selector, noSelector, heavier, found, bracketOf, cellIn, plainOf, testsOf, looped, unwind}

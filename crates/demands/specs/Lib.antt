@@ -1,3 +1,4 @@
 pub mod InTypes
+pub mod Passes
 pub mod Trees
 pub mod Demand3

@@ -43,6 +43,10 @@ plug ρ (P.complement e) = complement (plug ρ e)
 plug ρ (P.binary o t l r) = binary o t (plug ρ l) (plug ρ r)
 plug ρ (P.conversion t u e) = conversion t u (plug ρ e)
 
+-- the cells that one of an IF's branches assigns
+unfoldable pub either : P.Stmts → P.Stmts → ℕ → Bool
+either a b i = assigns a i || assigns b i
+
 -- every cell behind an IF, from the cell number i on: a select where a branch assigns it
 unfoldable pub mergeTrees : (ℕ → Bool) → ℕ → Tree → List Tree → List Tree → List Tree
 mergeTrees w i c [] bs = []
@@ -54,7 +58,7 @@ unfoldable pub symbolic : P.Stmts → List Tree → List Tree
 symbolic P.done ρ = ρ
 symbolic (P.assign c e k) ρ = symbolic k (set ρ (c .0) (plug ρ e))
 symbolic (P.choice c a b k) ρ =
-    symbolic k (mergeTrees (λ i. assigns a i || assigns b i) 0 (plug ρ c) (symbolic a ρ) (symbolic b ρ))
+    symbolic k (mergeTrees (either a b) 0 (plug ρ c) (symbolic a ρ) (symbolic b ρ))
 
 -- the reads of n cells, from the cell number i on
 unfoldable pub readsFrom : ℕ → ℕ → List Tree

@@ -1,3 +1,4 @@
+pub mod Residues
 pub mod Runs
 pub mod Results
 pub mod Tempting
