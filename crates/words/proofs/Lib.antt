@@ -1,0 +1,4 @@
+pub mod Gaps
+pub mod Runs
+pub mod Spellings
+pub mod Cuts

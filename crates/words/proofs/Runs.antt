@@ -1,0 +1,168 @@
+-- Runs of letters, digits and underscores, byte by byte.
+use mathlib.Core.Path.{_≡_, refl, sym, ap, _∙_}
+use mathlib.Core.Bool.{Bool, true, false, not, cond, _&&_, _||_, and-true, and-false, or-true, false≢true}
+use mathlib.Core.List.{List, [], _∷_}
+use Prim.Native.Nat.{ℕ, suc, _+_, _*_, _-_, _≤_, _<_}
+use native.Mathlib.Numerals.{add-one}
+use native.Mathlib.Omega.{arith}
+use borrow.Author.Tests.{eqb-true, eqb-false, ne-eqb, le-leb, lt-leb, leb-true, leb-false}
+use lib.Dec.{eqb, leb}
+use lib.ListN.{length, getD, drop}
+use lib.Seq.{drop-cons, drop-length}
+use Rattle.paper.specs.Words.{inRun, isDigit, isUnderscore, runOf, parted, allDigits, valueFrom}
+use Rattle.words.proofs.Gaps.{both}
+use Rattle.words.specs.Denoted.{part, RunEnds, IsNumeral}
+
+-- the first byte of a part
+pub part-cons : (t : List ℕ) (a e : ℕ) → a < e → e ≤ length t → part t a e ≡ getD t a 0 ∷ part t (a + 1) e
+part-cons t a e h k =
+    let l : a < length t = omega arith in
+    let n : e - a ≡ suc (e - (a + 1)) = omega arith in
+    rw (n, drop-cons t a 0 l, add-one a)
+
+-- a part of no bytes
+pub part-none : (t : List ℕ) (a : ℕ) → part t a a ≡ []
+part-none t a = let n : a - a ≡ 0 = omega arith in rw n
+
+-- ---- the end of a run
+
+-- a byte of a run lengthens the run behind it
+pub run-more : (t : List ℕ) (i r : ℕ) → i < length t → inRun (getD t i 0) ≡ true → RunEnds t (i + 1) r → RunEnds t i r
+unfolding runOf
+run-more t i r l h e =
+    let run : runOf (drop i t) ≡ getD t i 0 ∷ runOf (drop (i + 1) t) = rw (drop-cons t i 0 l, h, add-one i, runOf) in
+    record {
+      from = omega (arith, e .from);
+      to = e .to;
+      run = run ∙ ap (λ (s : List ℕ). getD t i 0 ∷ s) (e .run) ∙ sym (part-cons t i r (omega (arith, e .from)) (e .to));
+    }
+
+-- the run ends where none is next
+run-none : (t : List ℕ) (i : ℕ) → i ≤ length t → runOf (drop i t) ≡ [] → RunEnds t i i
+run-none t i l h = record { from = omega arith; to = l; run = h ∙ sym (part-none t i) }
+
+-- at a byte that is none of a run's
+pub run-stops : (t : List ℕ) (i : ℕ) → i < length t → inRun (getD t i 0) ≡ false → RunEnds t i i
+unfolding runOf
+run-stops t i l h = run-none t i (omega arith) (rw (drop-cons t i 0 l, h, runOf))
+
+-- and at the end of the text
+pub run-ends : (t : List ℕ) (i : ℕ) → i ≡ length t → RunEnds t i i
+unfolding runOf
+run-ends t i l = run-none t i (omega arith) (rw (l, drop-length t))
+
+-- ---- underscores
+
+-- of a part's first byte: no underscore at the end or before another
+pub parted-cons : (t : List ℕ) (i e : ℕ) → i < e → e ≤ length t
+    → parted (part t i e) ≡ (not (isUnderscore (getD t i 0) && (eqb (i + 1) e || isUnderscore (getD t (i + 1) 0))) && parted (part t (i + 1) e))
+unfolding parted
+parted-cons t i e l k = ap parted (part-cons t i e l k) ∙ go (eqb (i + 1) e) refl
+  where
+    c : ℕ
+    c = getD t i 0
+
+    go : (b : Bool) → eqb (i + 1) e ≡ b
+        → parted (c ∷ part t (i + 1) e) ≡ (not (isUnderscore c && (b || isUnderscore (getD t (i + 1) 0))) && parted (part t (i + 1) e))
+    go true h = rw (← eqb-true (i + 1) e h, part-none t (i + 1)) (simp and-true)
+    go false h =
+        let n : i + 1 < e = omega (arith, eqb-false (i + 1) e h) in
+        rw (part-cons t (i + 1) e n k)
+
+-- ---- a number's value
+
+-- more digits make no number smaller
+pub value-grows : (n : ℕ) (s : List ℕ) → n ≤ valueFrom n s
+unfolding valueFrom
+value-grows n [] = omega arith
+value-grows n (c ∷ s) =
+    let m = cond (isUnderscore c) n (n * 10 + (c - 48)) in
+    omega (arith, go (isUnderscore c), value-grows m s)
+  where
+    go : (u : Bool) → n ≤ cond u n (n * 10 + (c - 48))
+    go true = omega arith
+    go false = omega arith
+
+-- the bytes `s` read up to `rest`: digits worth n, which is 4294967296 if it is above 4294967295; or some byte was none of a number's
+pub record Counts (s rest : List ℕ) (n : ℕ) (good : Bool) : Type 0 where
+  pub small : n ≤ 4294967296
+  pub digits : allDigits s ≡ (good && allDigits rest)
+  pub within : good ≡ true → n ≤ 4294967295 → valueFrom 0 s ≡ valueFrom n rest
+  pub beyond : good ≡ true → 4294967295 < n → 4294967295 < valueFrom 0 s
+
+-- before the first byte
+pub counts-none : (s : List ℕ) → Counts s s 0 true
+counts-none s = record { small = omega arith; digits = refl; within = λ g h. refl; beyond = λ g h. absurd (omega arith) }
+
+-- the bytes of digits
+pub digit-range : (c : ℕ) → isDigit c ≡ true → (48 ≤ c) × (c ≤ 57)
+digit-range c h = let b = both (leb 48 c) (leb c 57) h in (leb-true 48 c (b .0), leb-true c 57 (b .1))
+
+-- one byte more
+module _ {s rest : List ℕ} {c n : ℕ} {g : Bool} (k : Counts s (c ∷ rest) n g) where
+  -- a digit counts
+  digit-value : isDigit c ≡ true → valueFrom n (c ∷ rest) ≡ valueFrom (n * 10 + (c - 48)) rest
+  unfolding valueFrom
+  digit-value h =
+      let u : isUnderscore c ≡ false = ne-eqb c 95 (λ e. false≢true (sym (ap isDigit e) ∙ h)) in
+      rw u
+
+  digit-digits : isDigit c ≡ true → allDigits s ≡ (g && allDigits rest)
+  unfolding allDigits
+  digit-digits h = k .digits ∙ rw (h, allDigits)
+
+  pub counts-digit : isDigit c ≡ true → n * 10 + (c - 48) ≤ 4294967295 → Counts s rest (n * 10 + (c - 48)) g
+  counts-digit h l = record {
+    small = omega arith;
+    digits = digit-digits h;
+    within = λ e m. k .within e (omega arith) ∙ digit-value h;
+    beyond = λ e m. absurd (omega arith);
+  }
+
+  -- a number that is too great stays too great
+  pub counts-clamp : isDigit c ≡ true → 4294967295 < n * 10 + (c - 48) → Counts s rest 4294967296 g
+  counts-clamp h l = record {
+    small = omega arith;
+    digits = digit-digits h;
+    within = λ e m. absurd (omega arith);
+    beyond = λ e m. go e (leb n 4294967295) refl;
+  }
+    where
+      go : g ≡ true → (b : Bool) → leb n 4294967295 ≡ b → 4294967295 < valueFrom 0 s
+      go e true m =
+          let v : valueFrom 0 s ≡ valueFrom (n * 10 + (c - 48)) rest = k .within e (leb-true n 4294967295 m) ∙ digit-value h in
+          omega (arith, value-grows (n * 10 + (c - 48)) rest)
+      go e false m = k .beyond e (leb-false n 4294967295 m)
+
+  -- an underscore counts nothing
+  pub counts-underscore : isUnderscore c ≡ true → Counts s rest n g
+  unfolding valueFrom allDigits
+  counts-underscore h = record {
+    small = k .small;
+    digits = k .digits ∙ rw (h, or-true, allDigits);
+    within = λ e m. k .within e m ∙ rw h;
+    beyond = k .beyond;
+  }
+
+  -- any other byte is none of a number's
+  pub counts-other : isDigit c ≡ false → isUnderscore c ≡ false → Counts s rest n false
+  unfolding allDigits
+  counts-other h u = record {
+    small = k .small;
+    digits = k .digits ∙ rw (h, u, and-false);
+    within = λ e m. absurd (false≢true e);
+    beyond = λ e m. absurd (false≢true e);
+  }
+
+-- at the end a number that fits
+pub counts-fit : (s : List ℕ) (n : ℕ) → Counts s [] n true → n ≤ 4294967295 → IsNumeral s (record { good = true; value = n })
+unfolding allDigits valueFrom
+counts-fit s n k h =
+    let v = k .within refl h in
+    record { good = sym (rw (k .digits, v, le-leb n 4294967295 h)); value = sym v }
+
+-- or none
+pub counts-fail : (s : List ℕ) (n : ℕ) (g : Bool) → Counts s [] n g → (g ≡ true → 4294967295 < n) → IsNumeral s (record { good = false; value = 0 })
+unfolding allDigits valueFrom
+counts-fail s n true k h = record { good = sym (rw (k .digits, lt-leb (valueFrom 0 s) 4294967295 (k .beyond refl (h refl)))); value = refl }
+counts-fail s n false k h = record { good = sym (rw (k .digits)); value = refl }

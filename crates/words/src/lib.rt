@@ -1,0 +1,407 @@
+// One word at a place of a text, as document 01 cuts words: blanks and comments skipped, the longest run or sign taken.
+ghost use mathlib.Core.Path.{_≡_};
+ghost use Prim.Native.Nat.{_+_, _-_, _*_, _≤_, _<_};
+ghost use mathlib.Core.Bool.{Bool, true, false};
+ghost use lib.ListN.{length, getD, replicate};
+ghost use mathlib.Core.List.{_++_};
+ghost use Rattle.paper.specs.Words.{isBlank, isDigit, inRun, isUnderscore, capital, parted, allDigits, sameBytes};
+ghost use Rattle.words.specs.Denoted.{part, folded, CommentEnds, Skips, RunEnds, IsNumeral, IsEntry, IsRunClass, IsSign, IsSignLength, IsNumberAt, IsNameAt, IsWordAt, IsWord, IsFirstBad};
+
+// The classes of a word. From RESERVED on they number the entries of the list of reserved words, from SIGN on those of the signs.
+pub const ENDING: u8 = 0;
+
+pub const NAME: u8 = 1;
+
+pub const NUMBER: u8 = 2;
+
+pub const RESERVED: u8 = 3;
+
+pub const SIGN: u8 = 54;
+
+pub const BAD: u8 = 255;
+
+// A word: its class, its first byte, the place behind it, and a number's value.
+pub struct Word {
+    pub class: u8,
+    pub at: usize,
+    pub end: usize,
+    pub value: u32,
+}
+
+// Where blanks and comments end; a comment that isn't closed stops them at its `(`.
+pub struct Gap {
+    pub at: usize,
+    pub open: bool,
+}
+
+// The value of a run of digits, if it is a number.
+pub struct Numeral {
+    pub good: bool,
+    pub value: u32,
+}
+
+// Where the first bad word stands, if there is one.
+pub enum FirstBad {
+    At(usize),
+    Nowhere,
+}
+
+fn blank(b: u8) -> bool
+    ensures { λ r. ⌜ r ≡ isBlank b ⌝ }
+{
+    b == 32 || b == 9 || b == 13 || b == 10
+}
+
+fn digit(b: u8) -> bool
+    ensures { λ r. ⌜ r ≡ isDigit b ⌝ }
+{
+    48 <= b && b <= 57
+}
+
+fn in_run(b: u8) -> bool
+    ensures { λ r. ⌜ r ≡ inRun b ⌝ }
+{
+    65 <= b && b <= 90 || 97 <= b && b <= 122 || digit(b) || b == 95
+}
+
+fn folded_byte(b: u8) -> u8
+    ensures { λ r. ⌜ r ≡ capital b ⌝ }
+{
+    if 97 <= b && b <= 122 { b - 32 } else { b }
+}
+
+// The place behind the `*)` that closes a comment whose inside starts at `at`; beyond the text where none does.
+fn comment_end(text: &[u8], at: usize) -> usize
+    requires { ⌜ (at ≤ length (now text)) × (length (now text) ≤ 8192) ⌝ }
+    ensures { λ r. ⌜ CommentEnds (now (text .entry)) at r ⌝ }
+{
+    let n = text.len();
+    let mut i = at;
+    while i + 1 < n {
+        if text[i] == 42 && text[i + 1] == 41 {
+            return i + 2;
+        }
+        i += 1;
+    }
+    n + 1
+}
+
+// Blanks and comments from `at` on.
+fn skip(text: &[u8], at: usize) -> Gap
+    requires { ⌜ (at ≤ length (now text)) × (length (now text) ≤ 8192) ⌝ }
+    ensures { λ r. ⌜ Skips (now (text .entry)) at r ⌝ }
+{
+    let n = text.len();
+    let mut i = at;
+    while i < n {
+        if blank(text[i]) {
+            i += 1;
+        } else {
+            if text[i] == 40 && i + 1 < n && text[i + 1] == 42 {
+                let e = comment_end(text, i + 2);
+                if n < e {
+                    return Gap { at: i, open: true };
+                }
+                i = e;
+            } else {
+                return Gap { at: i, open: false };
+            }
+        }
+    }
+    Gap { at: n, open: false }
+}
+
+// The end of the run of letters, digits and underscores that `at` lies in.
+fn run_end(text: &[u8], at: usize) -> usize
+    requires { ⌜ at ≤ length (now text) ⌝ }
+    ensures { λ r. ⌜ RunEnds (now (text .entry)) at r ⌝ }
+{
+    let n = text.len();
+    let mut i = at;
+    while i < n && in_run(text[i]) {
+        i += 1;
+    }
+    i
+}
+
+// No two underscores together, none at the end.
+fn is_parted(text: &[u8], at: usize, end: usize) -> bool
+    requires { ⌜ (at ≤ end) × (end ≤ length (now text)) ⌝ }
+    ensures { λ r. ⌜ r ≡ parted (part (now (text .entry)) at end) ⌝ }
+{
+    let mut i = at;
+    while i < end {
+        if text[i] == 95 && (i + 1 == end || text[i + 1] == 95) {
+            return false;
+        }
+        i += 1;
+    }
+    true
+}
+
+// A run of digits and underscores as a number of at most 4,294,967,295.
+fn numeral_of(text: &[u8], at: usize, end: usize) -> Numeral
+    requires { ⌜ (at ≤ end) × (end ≤ length (now text)) ⌝ }
+    ensures { λ r. ⌜ IsNumeral (part (now (text .entry)) at end) r ⌝ }
+{
+    let mut i = at;
+    let mut n: u64 = 0;
+    let mut good = true;
+    while i < end {
+        let b = text[i];
+        if digit(b) {
+            n = n * 10 + (b as u64 - 48);
+            if 4294967295 < n {
+                n = 4294967296;
+            }
+        } else {
+            if b != 95 {
+                good = false;
+            }
+        }
+        i += 1;
+    }
+    if good && n <= 4294967295 {
+        Numeral {
+            good: true,
+            value: n as u32,
+        }
+    } else {
+        Numeral {
+            good: false,
+            value: 0,
+        }
+    }
+}
+
+// Whether the run is the reserved word number `i`: the words stand in the order of document 01's list, each with blanks up to 14 bytes, which match no byte.
+fn is_spelled(text: &[u8], at: usize, end: usize, i: usize) -> bool
+    requires { ⌜ (at ≤ end) × (end ≤ length (now text)) × (i < 51) ⌝ }
+    ensures { λ r. ⌜ IsEntry (now (text .entry)) at end i r ⌝ }
+{
+    let list =
+        b"PROGRAM       END_PROGRAM   VAR_INPUT     VAR_OUTPUT    VAR           END_VAR       ARRAY         OF            \
+          IF            THEN          ELSIF         ELSE          END_IF        CASE          END_CASE      FOR           \
+          TO            BY            DO            END_FOR       BOOL          INT           UINT          DINT          \
+          UDINT         NOT           MOD           AND           XOR           OR            TRUE          FALSE         \
+          INT_TO_UINT   INT_TO_DINT   INT_TO_UDINT  UINT_TO_INT   UINT_TO_DINT  UINT_TO_UDINT DINT_TO_INT   DINT_TO_UINT  \
+          DINT_TO_UDINT UDINT_TO_INT  UDINT_TO_UINT UDINT_TO_DINT WHILE         END_WHILE     REPEAT        END_REPEAT    \
+          UNTIL         EXIT          RETURN        ";
+    let n = end - at;
+    if 13 < n {
+        return false;
+    }
+    let mut j = 0;
+    while j < n {
+        let c = list[14 * i + j];
+        if c == 32 || folded_byte(text[at + j]) != c {
+            return false;
+        }
+        j += 1;
+    }
+    list[14 * i + n] == 32
+}
+
+// The class of a run that is a name or a reserved word.
+fn run_class(text: &[u8], at: usize, end: usize) -> u8
+    requires { ⌜ (at ≤ end) × (end ≤ length (now text)) ⌝ }
+    ensures { λ r. ⌜ IsRunClass (folded (now (text .entry)) at end) r ⌝ }
+{
+    let mut i: usize = 0;
+    while i < 51 {
+        if is_spelled(text, at, end, i) {
+            return RESERVED + (i as u8);
+        }
+        i += 1;
+    }
+    NAME
+}
+
+// The byte at a place, 0 beyond the text.
+fn byte_at(text: &[u8], at: usize) -> u8
+    ensures { λ r. ⌜ r ≡ getD (now (text .entry)) at 0 ⌝ }
+{
+    if at < text.len() { text[at] } else { 0 }
+}
+
+// The class of the sign that starts with the bytes `a` and `b`, by its number in the list of signs.
+fn sign_class(a: u8, b: u8) -> u8
+    ensures { λ r. ⌜ IsSign a b r ⌝ }
+{
+    match a {
+        58 => if b == 61 { SIGN } else { SIGN + 5 },
+        46 => if b == 46 { SIGN + 1 } else { BAD },
+        60 => if b == 61 {
+            SIGN + 2
+        } else {
+            if b == 62 { SIGN + 4 } else { SIGN + 16 }
+        },
+        62 => if b == 61 { SIGN + 3 } else { SIGN + 17 },
+        59 => SIGN + 6,
+        44 => SIGN + 7,
+        40 => SIGN + 8,
+        41 => SIGN + 9,
+        91 => SIGN + 10,
+        93 => SIGN + 11,
+        42 => SIGN + 12,
+        47 => SIGN + 13,
+        43 => SIGN + 14,
+        45 => SIGN + 15,
+        61 => SIGN + 18,
+        38 => SIGN + 19,
+        _ => BAD,
+    }
+}
+
+// A sign of two bytes is one of the first five.
+fn sign_length(class: u8) -> usize
+    ensures { λ r. ⌜ IsSignLength class r ⌝ }
+{
+    if class < SIGN + 5 { 2 } else { 1 }
+}
+
+fn bad(at: usize) -> Word
+    ensures { λ r. ⌜ r ≡ record { class = 255; at = at; end = at; value = 0 } ⌝ }
+{
+    Word {
+        class: BAD,
+        at,
+        end: at,
+        value: 0,
+    }
+}
+
+// The word of a run that starts with a digit.
+fn number_at(text: &[u8], at: usize, end: usize) -> Word
+    requires { ⌜ (at ≤ end) × (end ≤ length (now text)) ⌝ }
+    ensures { λ r. ⌜ IsNumberAt (now (text .entry)) at end r ⌝ }
+{
+    let n = numeral_of(text, at, end);
+    if n.good && is_parted(text, at, end) {
+        Word {
+            class: NUMBER,
+            at,
+            end,
+            value: n.value,
+        }
+    } else {
+        bad(at)
+    }
+}
+
+// The word of any other run.
+fn name_at(text: &[u8], at: usize, end: usize) -> Word
+    requires { ⌜ (at ≤ end) × (end ≤ length (now text)) ⌝ }
+    ensures { λ r. ⌜ IsNameAt (now (text .entry)) at end r ⌝ }
+{
+    if end - at <= 24 && is_parted(text, at, end) {
+        Word {
+            class: run_class(text, at, end),
+            at,
+            end,
+            value: 0,
+        }
+    } else {
+        bad(at)
+    }
+}
+
+// The word that starts at a place inside the text where no blank and no comment does.
+fn word_at(text: &[u8], at: usize) -> Word
+    requires { ⌜ at < length (now text) ⌝ }
+    ensures { λ r. ⌜ IsWordAt (now (text .entry)) at r ⌝ }
+{
+    let b = text[at];
+    if in_run(b) {
+        let end = run_end(text, at);
+        if digit(b) {
+            return number_at(text, at, end);
+        }
+        return name_at(text, at, end);
+    }
+    let class = sign_class(b, byte_at(text, at + 1));
+    if class == BAD {
+        return bad(at);
+    }
+    Word {
+        class,
+        at,
+        end: at + sign_length(class),
+        value: 0,
+    }
+}
+
+// The next word from a place on: ENDING at the text's length where none is left, BAD where none can be read.
+pub fn next_word(text: &[u8], at: usize) -> Word
+    requires { ⌜ (at ≤ length (now text)) × (length (now text) ≤ 8192) ⌝ }
+    ensures { λ r. ⌜ IsWord (now (text .entry)) at r ⌝ }
+{
+    let g = skip(text, at);
+    let i = g.at;
+    if g.open {
+        return bad(i);
+    }
+    if i < text.len() {
+        return word_at(text, i);
+    }
+    Word {
+        class: ENDING,
+        at: i,
+        end: i,
+        value: 0,
+    }
+}
+
+// The place of the first bad word of a text.
+pub fn first_bad(text: &[u8]) -> FirstBad
+    requires { ⌜ length (now text) ≤ 8192 ⌝ }
+    ensures { λ r. ⌜ IsFirstBad (now (text .entry)) r ⌝ }
+{
+    let mut at: usize = 0;
+    loop {
+        let w = next_word(text, at);
+        if w.class == BAD {
+            return FirstBad::At(w.at);
+        }
+        if w.class == ENDING {
+            return FirstBad::Nowhere;
+        }
+        at = w.end;
+    }
+}
+
+// A name in capitals, in front of zeros.
+fn fold(text: &[u8], at: usize, end: usize) -> [u8; 24]
+    requires { ⌜ (at ≤ end) × (end ≤ length (now text)) × (end - at ≤ 24) ⌝ }
+    ensures { λ r. ⌜ r ≡ folded (now (text .entry)) at end ++ replicate (24 - (end - at)) 0 ⌝ }
+{
+    let mut out = [0u8; 24];
+    let n = end - at;
+    let mut i = 0;
+    while i < n {
+        out[i] = folded_byte(text[at + i]);
+        i += 1;
+    }
+    out
+}
+
+// Whether two names of at most 24 bytes are the same, case of letters aside.
+pub fn same_name(text: &[u8], a: usize, ae: usize, b: usize, be: usize) -> bool
+    requires { ⌜ (a ≤ ae) × (ae ≤ length (now text)) × (ae - a ≤ 24) × (b ≤ be) × (be ≤ length (now text)) × (be - b ≤ 24) ⌝ }
+    ensures { λ r. ⌜ r ≡ sameBytes (folded (now (text .entry)) a ae) (folded (now (text .entry)) b be) ⌝ }
+{
+    let n = ae - a;
+    if n != be - b {
+        return false;
+    }
+    let x = fold(text, a, ae);
+    let y = fold(text, b, be);
+    let mut i = 0;
+    while i < n {
+        if x[i] != y[i] {
+            return false;
+        }
+        i += 1;
+    }
+    true
+}
