@@ -497,6 +497,6 @@ program f ts = do
     | false ↦ broken end
   ]
 
--- between two words no more than six calls stand inside one another
+-- between two words far fewer than 32 calls stand inside one another
 unfoldable pub programOf : List Token → Answer Program
-programOf ts = program (6 * length ts + 6) ts
+programOf ts = program (32 * length ts + 32) ts

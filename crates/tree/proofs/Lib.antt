@@ -1,0 +1,5 @@
+pub mod Decodes
+pub mod Frames
+pub mod Puts
+pub mod Forms
+mod Heights
