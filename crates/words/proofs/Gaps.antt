@@ -1,34 +1,28 @@
 -- Blanks and comments: where a comment ends, and the words behind them.
 use mathlib.Core.Path.{_≡_, refl, sym, ap, subst, _∙_}
-use mathlib.Core.Bool.{Bool, true, false, _&&_, and-false}
+use mathlib.Core.Bool.{Bool, true, false, _&&_, and-false, false≢true}
 use mathlib.Core.Option.{Option, none, some}
 use mathlib.Core.List.{List, [], _∷_}
 use Prim.Native.Nat.{ℕ, zero, suc, _+_, _≤_, _<_}
 use native.Mathlib.Numerals.{add-one}
 use native.Mathlib.Omega.{arith}
+use borrow.Author.Tests.{eq-eqb, eqb-true}
 use lib.Dec.{eqb}
 use lib.ListN.{length, getD, drop, length-drop}
 use lib.Seq.{drop-cons, drop-drop, getD-drop}
-use borrow.Author.Tests.{eq-eqb, eqb-true}
 use Rattle.paper.specs.declared.Why.the-variants.{NoWord}
-use Rattle.paper.specs.Refusals.{refused}
-use Rattle.paper.specs.Words.{bytes, isBlank, begins, closed, gap, bad, pieceOf, wordsFrom}
+use Rattle.paper.specs.Refusals.{refused, given, _>>=_}
+use Rattle.paper.specs.Words.{Word, bytes, isBlank, begins, closed, gap, word, bad, pieceOf, wordsFrom}
 use Rattle.words.specs.Denoted.{CommentEnds, wordsAt}
+use Rattle.words.proofs.Truths.{both}
 
 -- ---- two bytes at a place
-
--- two tests that hold together hold
-pub both : (x y : Bool) → (x && y) ≡ true → (x ≡ true) × (y ≡ true)
-both true y h = (refl, h)
-both false y h = let z : _≡_ {A = ℕ} 0 1 = cc in absurd (omega arith)
 
 -- a text that begins with two bytes has them, and the other way round
 begun : (a b : ℕ) (s : List ℕ) → begins (a ∷ b ∷ []) s ≡ true → (1 < length s) × (getD s 0 0 ≡ a) × (getD s 1 0 ≡ b)
 unfolding begins
-begun a b [] h = let z : _≡_ {A = ℕ} 0 1 = cc in absurd (omega arith)
-begun a b (x ∷ []) h =
-    let f = both (eqb a x) false h .1 in
-    let z : _≡_ {A = ℕ} 0 1 = cc in absurd (omega arith)
+begun a b [] h = absurd (false≢true h)
+begun a b (x ∷ []) h = absurd (false≢true (both (eqb a x) false h .1))
 begun a b (x ∷ y ∷ s) h =
     let f = both (eqb a x) (eqb b y && true) h in
     (omega arith, sym (eqb-true a x (f .0)), sym (eqb-true b y (both (eqb b y) true (f .1) .0)))
@@ -41,13 +35,13 @@ begin a b (x ∷ y ∷ s) l p q = rw (eq-eqb a x (sym p), eq-eqb b y (sym q))
 
 -- so too at a place
 module _ (t : List ℕ) (i a b : ℕ) where
-  pub two-stand : i + 1 < length t → getD t i 0 ≡ a → getD t (i + 1) 0 ≡ b → begins (a ∷ b ∷ []) (drop i t) ≡ true
+  two-stand : i + 1 < length t → getD t i 0 ≡ a → getD t (i + 1) 0 ≡ b → begins (a ∷ b ∷ []) (drop i t) ≡ true
   two-stand l p q =
       begin a b (drop i t) (simp length-drop (omega arith))
       (getD-drop i t 0 0 ∙ ap (λ (k : ℕ). getD t k 0) (omega arith) ∙ p)
       (getD-drop i t 1 0 ∙ q)
 
-  pub two-miss : (i + 1 < length t → getD t i 0 ≡ a → getD t (i + 1) 0 ≡ b → ⊥) → begins (a ∷ b ∷ []) (drop i t) ≡ false
+  two-miss : (i + 1 < length t → getD t i 0 ≡ a → getD t (i + 1) 0 ≡ b → ⊥) → begins (a ∷ b ∷ []) (drop i t) ≡ false
   two-miss no-two = go (begins (a ∷ b ∷ []) (drop i t)) refl
     where
       go : (f : Bool) → begins (a ∷ b ∷ []) (drop i t) ≡ f → f ≡ false
@@ -113,15 +107,22 @@ comment-none t i h =
 -- ---- the words behind skipped bytes
 
 -- bytes that are left of a piece are passed over
-pub words-skip : (n p : ℕ) (s : List ℕ) → n ≤ length s → wordsFrom n p s ≡ wordsFrom 0 (p + n) (drop n s)
+words-skip : (n p : ℕ) (s : List ℕ) → n ≤ length s → wordsFrom n p s ≡ wordsFrom 0 (p + n) (drop n s)
 unfolding wordsFrom
 words-skip zero p s h = ap (λ (q : ℕ). wordsFrom 0 q s) (omega arith)
 words-skip (suc n) p [] h = absurd (omega arith)
 words-skip (suc n) p (c ∷ s) h =
     words-skip n (suc p) s (omega arith) ∙ ap (λ (q : ℕ). wordsFrom 0 q (drop n s)) (omega arith)
 
+-- in a text, those behind the first byte of the piece at i
+words-behind : (t : List ℕ) (i n : ℕ) → i + suc n ≤ length t → wordsFrom n (suc i) (drop (suc i) t) ≡ wordsAt t (i + suc n)
+words-behind t i n k =
+    let fits : n ≤ length (drop (suc i) t) = simp length-drop (omega arith) in
+    let behind : suc i + n ≡ i + suc n = omega arith in
+    words-skip n (suc i) (drop (suc i) t) fits ∙ ap (wordsFrom 0 (suc i + n)) (drop-drop n (suc i) t) ∙ ap (wordsAt t) behind
+
 -- what stands at a blank
-pub piece-blank : (c : ℕ) (s : List ℕ) → isBlank c ≡ true → pieceOf c s ≡ gap 0
+piece-blank : (c : ℕ) (s : List ℕ) → isBlank c ≡ true → pieceOf c s ≡ gap 0
 unfolding pieceOf
 piece-blank c s h = rw (h, pieceOf)
 
@@ -131,29 +132,26 @@ unfolding bytes begins
 begins-plain c s h = ap isBlank (sym (eqb-true 40 c (both (eqb 40 c) _ h .0)))
 
 -- what stands at a comment that ends, and at one that doesn't
-pub piece-comment : (c n : ℕ) (s : List ℕ) → begins (bytes "(*") (c ∷ s) ≡ true → closed (drop 1 s) ≡ some n → pieceOf c s ≡ gap (suc n)
+piece-comment : (c n : ℕ) (s : List ℕ) → begins (bytes "(*") (c ∷ s) ≡ true → closed (drop 1 s) ≡ some n → pieceOf c s ≡ gap (suc n)
 unfolding pieceOf
 piece-comment c n s h k = rw (begins-plain c s h, h, k, pieceOf)
 
-pub piece-open : (c : ℕ) (s : List ℕ) → begins (bytes "(*") (c ∷ s) ≡ true → closed (drop 1 s) ≡ none → pieceOf c s ≡ bad
+piece-open : (c : ℕ) (s : List ℕ) → begins (bytes "(*") (c ∷ s) ≡ true → closed (drop 1 s) ≡ none → pieceOf c s ≡ bad
 unfolding pieceOf
 piece-open c s h k = rw (begins-plain c s h, h, k, pieceOf)
 
 -- the words at a place inside the text
 module _ (t : List ℕ) (i : ℕ) (l : i < length t) where
   -- are those behind a gap
-  pub words-gap : (n : ℕ) → i + suc n ≤ length t → pieceOf (getD t i 0) (drop (suc i) t) ≡ gap n → wordsAt t i ≡ wordsAt t (i + suc n)
+  words-gap : (n : ℕ) → i + suc n ≤ length t → pieceOf (getD t i 0) (drop (suc i) t) ≡ gap n → wordsAt t i ≡ wordsAt t (i + suc n)
   unfolding wordsFrom
-  words-gap n k h =
-      let s = drop (suc i) t in
-      let behind : suc i + n ≡ i + suc n = omega arith in
-      let fits : n ≤ length s = simp length-drop (omega arith) in
-      let first : wordsFrom 0 i (getD t i 0 ∷ s) ≡ wordsFrom n (suc i) s = rw (h, wordsFrom) in
-      ap (wordsFrom 0 i) (drop-cons t i 0 l)
-      ∙ first
-      ∙ words-skip n (suc i) s fits
-      ∙ ap (wordsFrom 0 (suc i + n)) (drop-drop n (suc i) t)
-      ∙ ap (wordsAt t) behind
+  words-gap n k h = rw (drop-cons t i 0 l, h, wordsFrom) (words-behind t i n k)
+
+  -- a word and those behind it
+  pub words-word : (n : ℕ) (w : Word) → i + suc n ≤ length t → pieceOf (getD t i 0) (drop (suc i) t) ≡ word n w
+      → wordsAt t i ≡ (wordsAt t (i + suc n) >>= λ ts. given (record { word = w; place = i } ∷ ts))
+  unfolding wordsFrom
+  words-word n w k h = rw (drop-cons t i 0 l, h, wordsFrom) (rw (words-behind t i n k))
 
   -- and none where no word stands
   pub words-bad : pieceOf (getD t i 0) (drop (suc i) t) ≡ bad → wordsAt t i ≡ refused NoWord i

@@ -1,4 +1,7 @@
-pub mod Gaps
+pub mod Truths
 pub mod Runs
+pub mod Gaps
 pub mod Spellings
+pub mod Signs
+pub mod Pieces
 pub mod Cuts

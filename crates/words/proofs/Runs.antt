@@ -1,4 +1,4 @@
--- Runs of letters, digits and underscores, byte by byte.
+-- Parts of a text: runs of letters, digits and underscores, byte by byte.
 use mathlib.Core.Path.{_≡_, refl, sym, ap, _∙_}
 use mathlib.Core.Bool.{Bool, true, false, not, cond, _&&_, _||_, and-true, and-false, or-true, false≢true}
 use mathlib.Core.List.{List, [], _∷_}
@@ -7,11 +7,15 @@ use native.Mathlib.Numerals.{add-one}
 use native.Mathlib.Omega.{arith}
 use borrow.Author.Tests.{eqb-true, eqb-false, ne-eqb, le-leb, lt-leb, leb-true, leb-false}
 use lib.Dec.{eqb, leb}
-use lib.ListN.{length, getD, drop}
+use lib.ListN.{length, getD, drop, length-take, length-drop}
 use lib.Seq.{drop-cons, drop-length}
 use Rattle.paper.specs.Words.{inRun, isDigit, isUnderscore, runOf, parted, allDigits, valueFrom}
-use Rattle.words.proofs.Gaps.{both}
 use Rattle.words.specs.Denoted.{part, RunEnds, IsNumeral}
+use Rattle.words.proofs.Truths.{both}
+
+-- how many bytes a part has
+pub part-length : (t : List ℕ) (a e : ℕ) → e ≤ length t → length (part t a e) ≡ e - a
+part-length t a e h = length-take (e - a) (drop a t) ∙ simp length-drop (omega arith)
 
 -- the first byte of a part
 pub part-cons : (t : List ℕ) (a e : ℕ) → a < e → e ≤ length t → part t a e ≡ getD t a 0 ∷ part t (a + 1) e
@@ -72,7 +76,7 @@ parted-cons t i e l k = ap parted (part-cons t i e l k) ∙ go (eqb (i + 1) e) r
 -- ---- a number's value
 
 -- more digits make no number smaller
-pub value-grows : (n : ℕ) (s : List ℕ) → n ≤ valueFrom n s
+value-grows : (n : ℕ) (s : List ℕ) → n ≤ valueFrom n s
 unfolding valueFrom
 value-grows n [] = omega arith
 value-grows n (c ∷ s) =

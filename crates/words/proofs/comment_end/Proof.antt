@@ -1,11 +1,10 @@
--- `words::comment_end` meets its contract. The loop's invariant: where the comment ends from `i` on, it ends from `at` on.
--- The measure is what is left of the length.
+-- `words::comment_end` meets its contract. The loop's invariant: where the comment ends from `i` on, it ends from `at` on. The measure is what is left of the length.
+use mathlib.Core.Path.{_≡_}
+use mathlib.Core.Logic.{⊎-elim}
 use Prim.Native.Nat.{ℕ, _+_, _-_, _≤_}
 use native.Mathlib.Omega.{arith}
 use borrow.Author.Tests.{eqb-true, eqb-false}
 use lib.ListN.{length, getD}
-use mathlib.Core.Path.{_≡_}
-use mathlib.Core.Logic.{⊎-elim}
 use Rattle.words.specs.Denoted.{CommentEnds}
 use Rattle.words.proofs.Gaps.{comment-here, comment-more, comment-none}
 use Rattle.words.proofs.comment_end.Statement.{statement}

@@ -1,8 +1,8 @@
 -- `words::fold` meets its contract. The loop's invariant: the first `i` bytes in capitals, in front of zeros.
-use borrow.Author.Needs.{needs}
 use mathlib.Core.Path.{_≡_, _∙_}
 use Prim.Native.Nat.{_-_, _≤_}
 use native.Mathlib.Omega.{arith}
+use borrow.Author.Needs.{needs}
 use Rattle.words.specs.Denoted.{folded}
 use Rattle.words.proofs.Spellings.{filled, fill-folded, filled-folded}
 use Rattle.words.proofs.fold.Statement.{statement}

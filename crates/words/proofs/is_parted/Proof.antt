@@ -1,9 +1,8 @@
--- `words::is_parted` meets its contract. The loop's invariant: the whole part is parted if what is left of it is.
--- The measure is what is left of it.
-use Prim.Native.Nat.{_+_, _-_, _≤_}
+-- `words::is_parted` meets its contract. The loop's invariant: the whole part is parted if what is left of it is. The measure is what is left of it.
 use mathlib.Core.Path.{_≡_, refl, sym, _∙_}
 use mathlib.Core.Bool.{Bool, _||_}
 use mathlib.Core.Logic.{⊎-elim}
+use Prim.Native.Nat.{_+_, _-_, _≤_}
 use native.Mathlib.Omega.{arith}
 use borrow.Author.Tests.{eq-eqb, ne-eqb}
 use lib.Dec.{eqb}

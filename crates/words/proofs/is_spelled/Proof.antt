@@ -1,9 +1,9 @@
 -- `words::is_spelled` meets its contract. The loop's invariant: the run and the spelling are the same just where they are from byte `j` on.
-use borrow.Author.Needs.{needs}
 use mathlib.Core.Path.{_≡_, sym, _∙_}
 use mathlib.Core.Logic.{⊎-elim}
 use Prim.Native.Nat.{_+_, _-_, _≤_}
 use native.Mathlib.Omega.{arith}
+use borrow.Author.Needs.{needs}
 use borrow.Author.Tests.{eq-eqb, ne-eqb, eqb-true, eqb-false, not-true, not-false}
 use lib.ListN.{getD, drop}
 use Rattle.paper.specs.Words.{sameBytes, capital, reserved, bytes, typeName, conversionName}

@@ -1,9 +1,9 @@
 -- `words::name_at` meets its contract: the length and the parting of the run say whether it is a name or a reserved word.
-use mathlib.Core.Logic.{⊎-elim}
 use mathlib.Core.Path.{sym, _∙_}
-use borrow.Author.Tests.{le-leb, lt-leb}
+use mathlib.Core.Logic.{⊎-elim}
 use borrow.Author.Needs.{needs}
-use Rattle.words.proofs.Cuts.{name-good, name-bad}
+use borrow.Author.Tests.{le-leb, lt-leb}
+use Rattle.words.proofs.Pieces.{name-good, name-bad}
 use Rattle.words.proofs.name_at.Statement.{statement}
 use Rattle.words.proofs.name_at.Tie as tie
 

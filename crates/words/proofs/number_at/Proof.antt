@@ -1,8 +1,8 @@
 -- `words::number_at` meets its contract: the numeral and the parting of the run say whether it is a number.
-use mathlib.Core.Logic.{⊎-elim}
 use mathlib.Core.Path.{sym, _∙_}
+use mathlib.Core.Logic.{⊎-elim}
 use borrow.Author.Needs.{needs}
-use Rattle.words.proofs.Cuts.{number-good, number-bad}
+use Rattle.words.proofs.Pieces.{number-good, number-bad}
 use Rattle.words.proofs.number_at.Statement.{statement}
 use Rattle.words.proofs.number_at.Tie as tie
 

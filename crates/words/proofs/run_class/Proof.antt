@@ -1,8 +1,8 @@
 -- `words::run_class` meets its contract. The loop's invariant: no entry before `i` has the run's spelling.
-use borrow.Author.Needs.{needs}
 use mathlib.Core.Path.{_≡_, sym, _∙_}
 use Prim.Native.Nat.{_-_, _≤_}
 use native.Mathlib.Omega.{arith}
+use borrow.Author.Needs.{needs}
 use lib.ListN.{drop}
 use Rattle.paper.specs.Words.{name, lookUp, reserved}
 use Rattle.words.specs.Denoted.{folded, denoted}

@@ -1,7 +1,6 @@
--- `words::run_end` meets its contract. The loop's invariant: where the run ends from `i` on, it ends from `at` on.
--- The measure is what is left of the length.
-use Prim.Native.Nat.{ℕ, _-_, _≤_}
+-- `words::run_end` meets its contract. The loop's invariant: where the run ends from `i` on, it ends from `at` on. The measure is what is left of the length.
 use mathlib.Core.Path.{sym, _∙_}
+use Prim.Native.Nat.{ℕ, _-_, _≤_}
 use native.Mathlib.Omega.{arith}
 use borrow.Author.Needs.{needs}
 use lib.ListN.{length}

@@ -1,8 +1,8 @@
 -- `words::sign_length` meets its contract.
 use mathlib.Core.Path.{sym}
 use native.Mathlib.Omega.{arith}
-use Rattle.words.proofs.Spellings.{two-bytes, one-byte}
 use borrow.Author.Needs.{needs}
+use Rattle.words.proofs.Signs.{two-bytes, one-byte}
 use Rattle.words.proofs.sign_length.Statement.{statement}
 use Rattle.words.proofs.sign_length.Tie as tie
 

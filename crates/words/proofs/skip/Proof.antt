@@ -1,9 +1,8 @@
--- `words::skip` meets its contract. The loop's invariant: the words from `at` on are those from `i` on.
--- The measure is what is left of the length.
-use Prim.Native.Nat.{ℕ, _+_, _-_, _≤_, _<_}
+-- `words::skip` meets its contract. The loop's invariant: the words from `at` on are those from `i` on. The measure is what is left of the length.
 use mathlib.Core.Path.{_≡_, refl, sym, ap, _∙_}
 use mathlib.Core.List.{List}
 use mathlib.Core.Logic.{⊎-elim}
+use Prim.Native.Nat.{ℕ, _+_, _-_, _≤_, _<_}
 use native.Mathlib.Omega.{arith}
 use borrow.Author.Needs.{needs}
 use borrow.Author.Tests.{eqb-true, eqb-false, ltb-true, ltb-false}

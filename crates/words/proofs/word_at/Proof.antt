@@ -5,7 +5,7 @@ use native.Mathlib.Omega.{arith}
 use borrow.Author.Needs.{needs}
 use lib.ListN.{getD}
 use Rattle.paper.specs.Words.{inRun}
-use Rattle.words.proofs.Cuts.{number-here, name-here, sign-cut, sign-here, bad-here}
+use Rattle.words.proofs.Pieces.{number-here, name-here, sign-cut, sign-here, bad-here}
 use Rattle.words.proofs.word_at.Statement.{statement}
 use Rattle.words.proofs.word_at.Tie as tie
 
