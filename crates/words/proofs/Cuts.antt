@@ -59,6 +59,7 @@ module _ (t : List ℕ) (at : ℕ) (g : Gap) (s : Skips t at g) where
         words = rw o at (s .behind);
         again = λ q. absurd (true≢false q);
         last = λ q. absurd (false≢true q);
+        known = λ q. absurd (true≢false q);
       }
 
   pub word-next : g .open ≡ false → g .at < length t → (r : Word) → IsWordAt t (g .at) r → IsWord t at r
@@ -73,6 +74,7 @@ module _ (t : List ℕ) (at : ℕ) (g : Gap) (s : Skips t at g) where
         words = b .0 ∙ words-cut t (g .at) r h p;
         again = λ _. ap (wordsAt t) (p .here) ∙ words-cut t (g .at) r h p;
         last = λ q. absurd (omega (arith, p .some-word, eqb-true (r .class) 0 q));
+        known = p .known;
       }
 
   pub ending-next : g .open ≡ false → length t ≤ g .at → IsWord t at (record { class = 0; at = g .at; end = g .at; value = 0 })
@@ -88,6 +90,7 @@ module _ (t : List ℕ) (at : ℕ) (g : Gap) (s : Skips t at g) where
         words = b .0 ∙ rw (drop-of-length-le t h, e);
         again = λ _. rw (drop-of-length-le t h, e);
         last = λ _. e;
+        known = λ _. omega arith;
       }
 
 -- ---- the words so far

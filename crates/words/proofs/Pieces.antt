@@ -28,7 +28,7 @@ badAt at = record { class = 255; at = at; end = at; value = 0 }
 
 bad-piece : (t : List ℕ) (at : ℕ) (p : Piece) → at ≤ length t → p ≡ W.bad → IsPiece t at p (badAt at)
 bad-piece t at p h e =
-    record { here = refl; from = omega arith; to = h; moves = λ q. absurd (true≢false q); some-word = omega arith; piece = e }
+    record { here = refl; from = omega arith; to = h; moves = λ q. absurd (true≢false q); some-word = omega arith; known = λ q. absurd (true≢false q); piece = e }
 
 module _ (t : List ℕ) (a e : ℕ) (h : a ≤ e) (l : e ≤ length t) where
   number-piece : (n : Numeral) → IsNumeral (part t a e) n
@@ -48,6 +48,7 @@ module _ (t : List ℕ) (a e : ℕ) (h : a ≤ e) (l : e ≤ length t) where
         to = l;
         moves = λ _. m;
         some-word = omega arith;
+        known = λ _. omega arith;
         piece = number-piece n d ∙ rw (g, p, k, v);
       }
 
@@ -72,6 +73,7 @@ module _ (t : List ℕ) (a e : ℕ) (h : a ≤ e) (l : e ≤ length t) where
         to = l;
         moves = λ _. m;
         some-word = r .low;
+        known = λ _. omega arith;
         piece = name-piece ∙ rw (le-leb (e - a) 24 s, p, k, w, r .word);
       }
 
@@ -88,7 +90,7 @@ sign-two t at b e =
 
 -- what the class and the length of a sign say of the bytes at a place
 pub sign-cut : (t : List ℕ) (at b c n : ℕ) → at < length t → b ≡ getD t (at + 1) 0 → IsSign (getD t at 0) b c → (c ≡ 255 → ⊥) → IsSignLength c n
-    → (0 < n) × (at + n ≤ length t) × (signPiece signs (getD t at 0 ∷ drop (suc at) t) ≡ W.word (n - 1) (entry (c - 3) .word))
+    → (0 < n) × (at + n ≤ length t) × (signPiece signs (getD t at 0 ∷ drop (suc at) t) ≡ W.word (n - 1) (entry (c - 3) .word)) × (c < 74)
 sign-cut t at b c n h e i x l =
     let o : signOf c ≡ W.word (length (entry (c - 3) .spelling) - 1) (entry (c - 3) .word) = rw (ne-eqb c 255 x) in
     let p = sign-two t at b e ∙ i .sign ∙ o in
@@ -96,7 +98,7 @@ sign-cut t at b c n h e i x l =
     let y : n ≡ length (entry (c - 3) .spelling) = l (i .high) k in
     let z : 0 < length (entry (c - 3) .spelling) = sign-some c (i .high) k in
     let g : length (entry (c - 3) .spelling) - 1 < suc (length (drop (suc at) t)) = sign-inside signs _ _ _ signs-fair p .0 in
-    (omega arith, omega (arith, length-drop (suc at) t), rw y p)
+    (omega arith, omega (arith, length-drop (suc at) t), rw y p, k)
 
 -- ---- the piece at a place
 
@@ -144,6 +146,7 @@ module _ (t : List ℕ) (at : ℕ) (h : at < length t) where
         to = y .1;
         moves = λ _. omega (arith, y .0);
         some-word = omega (arith, s .high);
+        known = λ _. y .3;
         piece = here-step false false (no-digit (getD t at 0) i) i q g ∙ y .2 ∙ rw (ne-eqb c 255 x, k, w);
       }
 

@@ -102,6 +102,7 @@ pub record IsPiece (t : List ℕ) (at : ℕ) (p : Piece) (r : Word) : Type 0 whe
   pub to : r .end ≤ length t
   pub moves : eqb (r .class) 255 ≡ false → at < r .end
   pub some-word : 0 < r .class
+  pub known : eqb (r .class) 255 ≡ false → r .class < 74
   pub piece : p ≡ pieceIn t r
 
 abbrev pub IsNumberAt : List ℕ → ℕ → ℕ → Word → Type 0
@@ -138,6 +139,8 @@ pub record IsWord (t : List ℕ) (at : ℕ) (r : Word) : Type 0 where
   -- its own place gives it again, and the ending stands at the text's end
   pub again : eqb (r .class) 255 ≡ false → wordsAt t (r .at) ≡ answered t r
   pub last : eqb (r .class) 0 ≡ true → r .at ≡ length t
+  -- no class stands beyond the lists
+  pub known : eqb (r .class) 255 ≡ false → r .class < 74
 
 -- refusal 2, or none
 abbrev pub IsFirstBad : List ℕ → FirstBad → Type 0
