@@ -5,7 +5,7 @@ use lib.Dec.{ltb}
 use Rattle.paper.specs.Source.{Expr, number, truth, variable, element, minus, complement, binary, conversion, brackets, Label, one, range, Stmts, done, assign, choice, select, arm, loop, Program}
 use Rattle.paper.specs.Names.{at}
 
--- a leaf is 1, an element is a leaf, brackets add none
+-- refusal 7: how many operators stand above one another, and one more; an element counts as a leaf
 unfoldable pub height : Expr → ℕ
 height (number p z) = 1
 height (truth p b) = 1
@@ -32,7 +32,7 @@ firstWord (brackets p e) = p
 abbrev pub tooHigh : ℕ → ℕ → List ℕ
 tooHigh p h = at p (ltb 32 h)
 
--- 'its subscript is measured by itself'
+-- refusal 7, 'by itself': a subscript is an expression of its own
 unfoldable pub subscripts : Expr → List ℕ
 subscripts (number p z) = []
 subscripts (truth p b) = []
@@ -53,7 +53,7 @@ abbrev pub testHeight : ℕ → Label → ℕ
 testHeight h (one p a) = suc h
 testHeight h (range p a q b) = suc (suc h)
 
--- several are joined by OR from the left
+-- each further label puts one OR above what stands so far
 unfoldable pub joinedHeight : ℕ → ℕ → List Label → ℕ
 joinedHeight h n [] = n
 joinedHeight h n (l ∷ ls) = joinedHeight h (suc (max n (testHeight h l))) ls

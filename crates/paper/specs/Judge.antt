@@ -28,7 +28,7 @@ use Rattle.paper.specs.Tables.{Table, tableOf, runTable, Lent, lentOf, t
 
 -- ---- a text: 1 to 9
 
--- 'the first place in the text winning'
+-- Order, 'first place': of all faults of one number the smallest place
 unfoldable pub smallest : List ℕ → Option ℕ
 smallest [] = none
 smallest (p ∷ ps) = elim (smallest ps) [ none ↦ some p | some q ↦ some (min p q) ]
@@ -118,7 +118,7 @@ lent [] s = []
 lent (i ∷ is) [] = []
 lent (i ∷ is) (v ∷ s) = decode (i .ty) v ∷ lent is s
 
--- 12: every cell of the state, and of the inputs the input cells
+-- refusal 12: the state's value must fit, and an input's reading too
 abbrev pub cellFits : Info → ℤ → ℤ → Bool
 cellFits i z x = fits (i .ty) z && cond (i .isInput) (fits (i .ty) x) true
 
@@ -131,7 +131,7 @@ allFit (i ∷ is) (z ∷ zs) (x ∷ xs) = cellFits i z x && allFit is zs xs
 abbrev pub valued : List Info → List ℤ → List ℤ → Answer (Unit {0})
 valued is state inputs = cond (allFit is state inputs) (given tt) (refused BadValue 0)
 
--- 'A scan first puts the readings into the state's input cells'
+-- Meaning, 'readings': an input cell takes its reading, any other keeps its value
 unfoldable pub putReadings : List Info → State → State → State
 putReadings [] xs s = []
 putReadings (i ∷ is) [] s = []

@@ -23,7 +23,7 @@ some a >>= f = f a
 
 -- ---- FOR and CASE
 
--- v has passed b: above it for a positive step, below it for a negative one
+-- Meaning, 'passed': beyond b in the direction of the step, compared as whole numbers
 abbrev pub passed : ℤ → ℤ → ℤ → Bool
 passed c b v = cond (ltZ (pos 0) c) (ltZ b v) (ltZ v b)
 
@@ -31,7 +31,7 @@ passed c b v = cond (ltZ (pos 0) c) (ltZ b v) (ltZ v b)
 abbrev pub enough : ℤ → ℤ → ℕ
 enough a b = 2 + natAbs (b -ℤ a)
 
--- v is set and the body runs; the next value is v + c exactly, and if that has passed b the loop ends
+-- Meaning, FOR: set v and run the body; go on with v + c, unless that is beyond b
 unfoldable pub turns : ℕ → (ℤ → Ran → Ran) → (Ran → Option Ran) → ℤ → ℤ → ℤ → Ran → Option Ran
 turns zero put body c b v r = none
 turns (suc n) put body c b v r =
@@ -46,7 +46,7 @@ looped put body c b a r =
       | false ↦ elim (passed c b a) [ true ↦ some (put a r) | false ↦ turns (enough a b) put body c b a r ]
     ]
 
--- a label matches; 'a range with its ends reversed matches nothing'
+-- Meaning, CASE: a label matches its value, a range what lies between its ends (so 'reversed' ones match none)
 abbrev pub matches : ℤ → Label → Bool
 matches z (one p a) = equal z a
 matches z (range p a q b) = leZ a z && leZ z b

@@ -19,7 +19,7 @@ pub record Variable : Type 0 where
   pub declared : Declared
   pub first : ℕ
 
--- how many cells a variable has: 'each array element and each other variable is one'
+-- The text, 'one cell': an array has a cell for each element, any other variable has one
 abbrev pub sizeOf : Bounds → ℕ
 sizeOf single = 1
 sizeOf (array p lo q hi) = suc hi - lo
@@ -37,11 +37,11 @@ unfoldable pub ofKind : Kind → List Declared → List Declared
 ofKind k [] = []
 ofKind k (d ∷ ds) = cond (sameKind k (d .kind)) (d ∷ ofKind k ds) (ofKind k ds)
 
--- 'Sections in the order input, output, other'
+-- ST0 in print, 'order': inputs first, then outputs, then the rest
 unfoldable pub printed : List Declared → List Declared
 printed ds = ofKind Input ds ++ ofKind Output ds ++ ofKind Other ds
 
--- 'Cells are numbered in this printed order': from n on
+-- ST0 in print, 'numbered': each variable behind the cells of those before it, from n on
 unfoldable pub placed : ℕ → List Declared → List Variable
 placed n [] = []
 placed n (d ∷ ds) = record { declared = d; first = n } ∷ placed (n + sizeOf (d .bounds)) ds
@@ -84,7 +84,7 @@ abbrev pub reversed : Bounds → Bool
 reversed single = false
 reversed (array p lo q hi) = ltb hi lo
 
--- declared twice, lo above hi, the 65th cell; `before` are the names before it and n the cells
+-- refusal 5 of declarations: a name again, bounds the wrong way round, too many cells; `before` are the names so far, n the cells
 unfoldable pub declarationFaults : List Name → ℕ → List Declared → List ℕ
 declarationFaults before n [] = []
 declarationFaults before n (d ∷ ds) =
@@ -110,7 +110,7 @@ module _ (vs : List Variable) where
   unfoldable pub isInput : Name → Bool
   isInput s = elim (find s vs) [ none ↦ false | some v ↦ sameKind Input (v .declared .kind) ]
 
-  -- an integer cell, no input or array
+  -- Types, 'loop variable': what a FOR may run over
   unfoldable pub canLoop : Name → Bool
   canLoop s =
       elim (find s vs) [
@@ -131,7 +131,7 @@ module _ (vs : List Variable) where
   unknown (conversion p t u e) = unknown e
   unknown (brackets p e) = unknown e
 
-  -- the target is an input, or a variable of the FORs around, `loops`
+  -- refusal 5 of a target: an input, or a variable that one of the FORs around runs over
   unfoldable pub assigned : List Name → Expr → List ℕ
   assigned loops x = elim (named x) [ none ↦ [] | some n ↦ at (n .place) (isInput (n .name) || isAmong (n .name) loops) ]
 

@@ -60,7 +60,7 @@ carried c v r = record { state = store c v (r .state); steps = suc (r .steps) }
 abbrev pub tested : Ran → Ran
 tested r = record { state = r .state; steps = suc (r .steps) }
 
--- 'Statements run in order and each read sees the latest value'
+-- Meaning, 'in order': one after another, each from the state that the one before left
 unfoldable pub run : Stmts → Ran → Ran
 run done r = r
 run (assign c e k) r = run k (carried c (valueOf (r .state) e) r)
@@ -69,13 +69,13 @@ run (choice c a b k) r =
 
 -- ---- figure and weight
 
--- 1 for an assignment, 1 plus the larger branch for an IF
+-- Meaning, 'figure': the longest way through a list, an assignment or a test being 1
 unfoldable pub figure : Stmts → ℕ
 figure done = 0
 figure (assign c e k) = suc (figure k)
 figure (choice c a b k) = suc (max (figure a) (figure b)) + figure k
 
--- each cell read, number, truth value, operator and conversion is one
+-- Meaning, 'parts': every leaf and every operator or conversion counts
 unfoldable pub parts : Expr → ℕ
 parts (number t z) = 1
 parts (truth b) = 1
@@ -96,7 +96,7 @@ unfoldable pub count : (ℕ → Bool) → ℕ → ℕ
 count f zero = 0
 count f (suc n) = cond (f n) 1 0 + count f n
 
--- the number of different cells assigned within an IF's branches, of n cells
+-- Meaning, 'different cells': how many of n cells an IF's branches assign
 unfoldable pub cellsWithin : ℕ → Stmts → Stmts → ℕ
 cellsWithin n a b = count (λ i. assigns a i || assigns b i) n
 

@@ -41,7 +41,7 @@ abbrev pub truthValue : Bool → List ℕ → List ℕ
 truthValue true k = put "TRUE" k
 truthValue false k = put "FALSE" k
 
--- '`&` prints as AND'
+-- the spelling between two operands; both spellings of AND print alike
 abbrev pub sign : Op → String
 sign Mul = " * "
 sign Div = " / "
@@ -71,13 +71,13 @@ cell [] i k = k
 cell (v ∷ vs) i k =
     elim (leb (v .first) i && ltb i (v .first + sizeOf (v .declared .bounds))) [ true ↦ cellOfVariable v i k | false ↦ cell vs i k ]
 
--- an empty list prints `;`
+-- a list without statements is one empty statement
 abbrev pub orEmpty : Stmts → List ℕ → List ℕ → List ℕ
 orEmpty done k s = line ";" k
 orEmpty (assign c e r) k s = s
 orEmpty (choice c a b r) k s = s
 
--- an empty ELSE isn't printed
+-- ELSE only where it holds something
 abbrev pub elseOf : Stmts → List ℕ → List ℕ → List ℕ
 elseOf done k s = k
 elseOf (assign c e r) k s = line "ELSE" s
@@ -105,7 +105,7 @@ module _ (vs : List Variable) where
 
 -- ---- declarations
 
--- what isn't given is 0 or FALSE
+-- The text, 'given': a value that was left out
 abbrev pub initialOf : Ty → Initial → List ℕ → List ℕ
 initialOf BOOL nothing k = put "FALSE" k
 initialOf INT nothing k = put "0" k
@@ -115,7 +115,7 @@ initialOf UDINT nothing k = put "0" k
 initialOf t (value q p z) k = whole z k
 initialOf t (flag q b) k = truthValue b k
 
--- the initial value is always written but for inputs and arrays
+-- ST0 in print, 'initial value': written for every variable that may have one
 abbrev pub declarationOf : Kind → Bounds → Declared → List ℕ → List ℕ
 declarationOf Input b d k = typeName (d .ty) ++ line ";" k
 declarationOf Output single d k = typeName (d .ty) ++ put " := " (initialOf (d .ty) (d .initial) (line ";" k))
@@ -128,7 +128,7 @@ unfoldable pub declarations : List Declared → List ℕ → List ℕ
 declarations [] k = k
 declarations (d ∷ ds) k = d .name ++ put " : " (declarationOf (d .kind) (d .bounds) d (declarations ds k))
 
--- empty ones are left out
+-- a section stands only for declared variables
 abbrev pub section : String → List Declared → List ℕ → List ℕ
 section s [] k = k
 section s (d ∷ ds) k = line s (declarations (d ∷ ds) (line "END_VAR" k))

@@ -210,7 +210,7 @@ unfoldable mutual
   expression zero nest least ts = broken ts
   expression (suc f) nest least ts = operand f nest ts >>= λ e. joined f nest least (e .it) (e .rest)
 
-  -- what follows the operand e; 'equal ones group to the left'
+  -- what follows the operand e: an operator of the same level takes what stands before it as its left side
   pub joined : ℕ → ℕ → ℕ → Expr → List Token → Answer (Read Expr)
   joined zero nest least e ts = broken ts
   joined (suc f) nest least e ts =

@@ -153,7 +153,7 @@ lineType (select t c a b) = t
 abbrev pub isEarlier : List Line → Ty → Row → Bool
 isEarlier before t a = elim (getElem? before (a .0)) [ none ↦ false | some l ↦ sameTy t (lineType l) ]
 
--- 'a divisor a number's row and not zero'
+-- rule 11, 'divisor': the row of a number other than 0
 abbrev pub isNonZero : Line → Bool
 isNonZero (number t n) = not (eqb n 0)
 isNonZero (read t c) = false
@@ -169,7 +169,7 @@ isDivisor before b = elim (getElem? before (b .0)) [ none ↦ false | some l ↦
 abbrev pub isCell : List Info → Ty → Cell → Bool
 isCell is t c = elim (getElem? is (c .0)) [ none ↦ false | some i ↦ sameTy t (i .ty) ]
 
--- numbers within their types, cells read that exist, operands earlier and of its types
+-- rule 11 for one row, the rows before it being `before`
 abbrev pub lineKeeps : List Info → List Line → Line → Bool
 lineKeeps is before (number t n) = ltb n (2 ^ width t)
 lineKeeps is before (read t c) = isCell is t c
@@ -293,7 +293,7 @@ infosOf (x ∷ xs) =
 abbrev pub nextOf : ℕ → Row
 nextOf x = row (x / 16 - 1)
 
--- 'each non-input cell has one next row of its type, inputs have none'
+-- rule 11, 'next row': one of the cell's type, and none for an input
 abbrev pub cellKeeps : List Line → Info → ℕ → Bool
 cellKeeps ls i x =
     cond (i .isInput) (eqb (x / 16) 0)

@@ -65,11 +65,11 @@ reading true m r = negsuc (m - suc r)
 abbrev pub below : Ty → ℕ → Bool
 below t r = signed t && leb (2 ^ width t) (r + r)
 
--- 'modulo 2 to the width'
+-- Meaning, 'modulo': the residue of a whole number
 unfoldable pub encode : Ty → ℤ → ℕ
 encode t z = residue (2 ^ width t) z
 
--- 'brought into the type': the value that a residue stands for
+-- Meaning, 'brought into': the value that a residue stands for
 unfoldable pub decode : Ty → ℕ → ℤ
 decode t r = reading (below t (r % 2 ^ width t)) (2 ^ width t) (r % 2 ^ width t)
 
@@ -85,11 +85,11 @@ mul t a b = encode t (decode t a *ℤ decode t b)
 abbrev pub negate : Ty → ℕ → ℕ
 negate t a = encode t (negℤ (decode t a))
 
--- cut toward zero, then brought in
+-- Meaning, 'quotient': fractions are dropped
 abbrev pub quotient : Ty → ℕ → ℕ → ℕ
 quotient t a b = encode t (quotZ (decode t a) (decode t b))
 
--- a - (a/b)*b
+-- Meaning, MOD: what the quotient leaves
 abbrev pub remainder : Ty → ℕ → ℕ → ℕ
 remainder t a b = sub t a (mul t (quotient t a b) b)
 
@@ -148,7 +148,7 @@ sortOf And = logic
 sortOf Xor = logic
 sortOf Or = logic
 
--- the types that an operator takes: arithmetic and order are on integers, logic is on BOOL, equality is on either
+-- Types: which types an operator of each sort takes
 abbrev pub takes : Sort → Ty → Bool
 takes arithmetic t = isInteger t
 takes order t = isInteger t
@@ -185,6 +185,6 @@ divides And = false
 divides Xor = false
 divides Or = false
 
--- the type that numbers take where t is offered: 'none of an integer type' is DINT
+-- Types, 'surroundings': the type that numbers take where t is offered; BOOL is no offer
 abbrev pub forNumbers : Ty → Ty
 forNumbers t = cond (isInteger t) t DINT

@@ -30,7 +30,7 @@ abbrev pub unless : List ℕ → Ty → Judged
 unless [] t = typed t
 unless (p ∷ ps) t = faulty (p ∷ ps)
 
--- 'what contains a faulty part isn't judged': a rule's own fault counts where its parts have none
+-- refusal 6, 'contains': a rule's own fault counts only where its parts have none
 abbrev pub orElse : List ℕ → List ℕ → List ℕ
 orElse [] own = own
 orElse (p ∷ ps) own = p ∷ ps
@@ -41,7 +41,7 @@ pub record Numeral : Type 0 where
   pub place : ℕ
   pub value : ℤ
 
--- 'one number without brackets'
+-- Types, 'divisor': the only form that may divide
 abbrev pub plainNumber : Expr → Option Numeral
 plainNumber (number p z) = some (record { place = p; value = z })
 plainNumber (truth p b) = none
@@ -109,7 +109,7 @@ isScanOp And = false
 isScanOp Xor = false
 isScanOp Or = false
 
--- numbers, variables of the FORs around, `+ - *`, unary minus and conversions
+-- Types, 'scan constants': what can be worked out of numbers and the FORs around
 unfoldable pub isConstant : List Name → Expr → Bool
 isConstant loops (number p z) = true
 isConstant loops (truth p b) = false
@@ -127,13 +127,13 @@ isConstant loops (brackets p e) = isConstant loops e
 abbrev pub demandFaults : Ty → ℕ → Settled → List ℕ
 demandFaults t p s = orElse (s .faults) (at p (not (sameTy t (s .ty))))
 
--- 'unary minus on something other than a number needs a signed type'
+-- Types, 'unary minus': open where its operand is, else of a signed type
 abbrev pub negated : ℕ → Judged → Judged
 negated p (faulty ps) = faulty ps
 negated p numbers = numbers
 negated p (typed t) = unless (at p (not (signed t))) t
 
--- 'conversions between two integer types'
+-- The text, 'conversions': from an integer type to another
 abbrev pub converted : ℕ → Ty → Ty → Settled → Judged
 converted p t u s =
     unless (orElse (s .faults) (at p (not (sameTy t (s .ty) && isInteger t && isInteger u && not (sameTy t u))))) u
@@ -173,7 +173,7 @@ assignFaults q e (typed t) j = demandFaults t q (settle t e j)
 abbrev pub isBound : List Name → Ty → Expr → Settled → Bool
 isBound loops t e s = isConstant loops e && sameTy t (s .ty)
 
--- 'The selector is an integer'
+-- Types, 'selector'
 abbrev pub selectorFaults : ℕ → Settled → List ℕ
 selectorFaults p s = orElse (s .faults) (at p (not (isInteger (s .ty))))
 
@@ -259,7 +259,7 @@ module _ (vs : List Variable) where
 
   -- ---- statements
 
-  -- 'Bounds and step have the loop variable's type', else the fault is at FOR
+  -- Types, 'bounds': a, b and c, and where they are sound the FOR itself
   abbrev pub loopFaults : List Name → ℕ → Ty → Expr → Expr → Expr → List ℕ
   loopFaults loops p t a b c =
       let x = settled loops t a in

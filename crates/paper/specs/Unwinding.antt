@@ -46,13 +46,13 @@ pub record Selector : Type 0 where
   pub plain : Expr
   pub ty : Ty
 
--- a label n tests `s = n`, a range `(s >= lo) AND (s <= hi)`
+-- ST0, 'tests': equal to the label, or between the two ends of a range
 abbrev pub testOf : Selector → Label → Expr
 testOf s (one p a) = binary Eq (s .ty) (s .plain) (number (s .ty) a)
 testOf s (range p a q b) =
     binary And BOOL (binary Ge (s .ty) (s .plain) (number (s .ty) a)) (binary Le (s .ty) (s .plain) (number (s .ty) b))
 
--- 'several are joined by OR from the left'
+-- ST0, 'joined': one more label behind the test so far
 unfoldable pub orTests : Selector → Expr → List Label → Expr
 orTests s e [] = e
 orTests s e (l ∷ ls) = orTests s (binary Or BOOL e (testOf s l)) ls
@@ -106,7 +106,7 @@ bracketOf (S.conversion p t u e) = p
 bracketOf (S.brackets p e) = p
 
 module _ (vs : List Variable) where
-  -- 'each subscript becomes a number': 8 at its `[` where it is outside the array
+  -- ST0, 'subscript': the cell meant; refusal 8 at its `[` where there is none
   unfoldable pub cellIn : State → S.Expr → Answer Cell
   cellIn env x = found (bracketOf x) (cellOf vs env x)
 

@@ -66,7 +66,7 @@ isLetter c = between 65 90 c || between 97 122 c
 abbrev pub inRun : ℕ → Bool
 inRun c = isLetter c || isDigit c || isUnderscore c
 
--- 'Case of letters doesn't count'
+-- The text, 'case': a letter as a capital
 abbrev pub capital : ℕ → ℕ
 capital c = cond (between 97 122 c) (c - 32) c
 
@@ -98,7 +98,7 @@ typed t = record { spelling = typeName t; word = type t }
 abbrev converting : Ty → Ty → Spelled
 converting t u = record { spelling = conversionName t u; word = conversion t u }
 
--- every keyword, type, operator word and truth value, the conversion names, and seven more
+-- The text, 'reserved': words that are no names
 unfoldable pub reserved : List Spelled
 reserved =
     keyword "PROGRAM" ∷ keyword "END_PROGRAM" ∷ keyword "VAR_INPUT" ∷ keyword "VAR_OUTPUT" ∷ keyword "VAR"
@@ -115,7 +115,7 @@ reserved =
     ∷ keyword "WHILE" ∷ keyword "END_WHILE" ∷ keyword "REPEAT" ∷ keyword "END_REPEAT" ∷ keyword "UNTIL"
     ∷ keyword "EXIT" ∷ keyword "RETURN" ∷ []
 
--- 'of the signs the longest is taken': those of two bytes stand first
+-- The text, 'longest': signs of two bytes stand before those of one
 unfoldable pub signs : List Spelled
 signs =
     keyword ":=" ∷ keyword ".." ∷ spelled "<=" (operator Le) ∷ spelled ">=" (operator Ge) ∷ spelled "<>" (operator Ne)
@@ -154,7 +154,7 @@ unfoldable pub runOf : List ℕ → List ℕ
 runOf [] = []
 runOf (c ∷ s) = elim (inRun c) [ true ↦ c ∷ runOf s | false ↦ [] ]
 
--- no two underscores together, none at the end
+-- The text, 'underscores': each stands alone and before something
 unfoldable pub parted : List ℕ → Bool
 parted [] = true
 parted (c ∷ []) = not (isUnderscore c)
