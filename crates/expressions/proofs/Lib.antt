@@ -1,0 +1,9 @@
+pub mod Entries
+mod Names
+pub mod Tokens
+pub mod Answers
+pub mod Nodes
+pub mod Steps
+mod Moves
+mod Primaries
+mod Joins
