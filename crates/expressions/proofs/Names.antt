@@ -1,12 +1,14 @@
 -- A name among the words of a text is the run at its place, in capitals.
 use mathlib.Core.Path.{_≡_, refl, sym, ap, _∙_}
-use mathlib.Core.Bool.{Bool, true, false, cond, _&&_}
+use mathlib.Core.Bool.{Bool, true, false, cond, _&&_, and-eq-true-iff}
 use mathlib.Core.Option.{Option, none, some}
 use mathlib.Core.List.{List, [], _∷_, map}
 use Prim.Native.Nat.{ℕ, zero, suc, _-_, _≤_}
 use native.Mathlib.Omega.{arith}
+use borrow.Author.Tests.{leb-true}
 use lib.Dec.{leb}
-use lib.ListN.{length, drop}
+use lib.ListN.{length, take, drop}
+use lib.Seq.{take-all}
 use Rattle.paper.specs.declared.Why.the-variants.{NoWord}
 use Rattle.paper.specs.Refusals.{Answer, refused, given, _>>=_}
 use Rattle.paper.specs.Words as W
@@ -69,18 +71,22 @@ module _ (n : ℕ) (k : List ℕ) where
 
   -- ---- the piece of a name
 
-  name-named : (s : List ℕ) → namePiece s ≡ W.word n (W.name k) → k ≡ map capital s
+  name-named : (s : List ℕ) → namePiece s ≡ W.word n (W.name k) → k ≡ map capital (take 24 s)
   unfolding namePiece
-  name-named s h = go (parted s && leb (length s) 24) h
+  name-named s h = go (parted s && leb (length s) 24) refl h
     where
-      go : (b : Bool) → cond b (W.word (length s - 1) (lookUp reserved (map capital s) (W.name (map capital s)))) W.bad ≡ W.word n (W.name k) → k ≡ map capital s
-      go true q =
+      go : (b : Bool) → (parted s && leb (length s) 24) ≡ b
+          → cond b (W.word (length s - 1) (lookUp reserved (map capital s) (W.name (map capital s)))) W.bad ≡ W.word n (W.name k)
+          → k ≡ map capital (take 24 s)
+      go true p q =
           let w : lookUp reserved (map capital s) (W.name (map capital s)) ≡ W.name k = cc in
           let e = looked-up reserved (map capital s) (W.name (map capital s)) k nameless-reserved w in
-          cc
-      go false q = absurd (let z : _≡_ {A = ℕ} 0 1 = cc in omega arith)
+          let short : length s ≤ 24 = leb-true (length s) 24 (and-eq-true-iff (parted s) (leb (length s) 24) .0 p .1) in
+          let same : k ≡ map capital s = cc in
+          same ∙ ap (map capital) (sym (take-all 24 s short))
+      go false p q = absurd (let z : _≡_ {A = ℕ} 0 1 = cc in omega arith)
 
-  piece-named : (c : ℕ) (s : List ℕ) → pieceOf c s ≡ W.word n (W.name k) → k ≡ map capital (runOf (c ∷ s))
+  piece-named : (c : ℕ) (s : List ℕ) → pieceOf c s ≡ W.word n (W.name k) → k ≡ map capital (take 24 (runOf (c ∷ s)))
   unfolding pieceOf runOf
   piece-named c s h = go (isBlank c) refl (begins (bytes "(*") (c ∷ s)) refl (isDigit c) refl (inRun c) refl
     where
@@ -89,7 +95,7 @@ module _ (n : ℕ) (k : List ℕ) where
       comment (some i) q b m = let e = rw (b, m, q, pieceOf) at h in let z : _≡_ {A = ℕ} 0 1 = cc in omega arith
 
       go : (b : Bool) → isBlank c ≡ b → (m : Bool) → begins (bytes "(*") (c ∷ s) ≡ m → (d : Bool) → isDigit c ≡ d → (r : Bool) → inRun c ≡ r
-          → k ≡ map capital (runOf (c ∷ s))
+          → k ≡ map capital (take 24 (runOf (c ∷ s)))
       go true b m q d x r y = absurd (let e = rw (b, pieceOf) at h in let z : _≡_ {A = ℕ} 0 1 = cc in omega arith)
       go false b true q d x r y = absurd (comment (closed (drop 1 s)) refl b q)
       go false b false q true x r y = absurd (number-named (c ∷ runOf s) (rw (b, q, x, pieceOf) at h))
@@ -118,7 +124,7 @@ words-place zero q (c ∷ s) k us h = go (pieceOf c s) (λ n. words-place n (suc
 
 -- a name that stands there is the run
 pub first-name : (p c : ℕ) (s k : List ℕ) (us : List Token) → wordsFrom 0 p (c ∷ s) ≡ given (record { word = W.name k; place = p } ∷ us)
-    → k ≡ map capital (runOf (c ∷ s))
+    → k ≡ map capital (take 24 (runOf (c ∷ s)))
 unfolding wordsFrom
 first-name p c s k us h = go (pieceOf c s) refl h
   where
@@ -128,7 +134,7 @@ first-name p c s k us h = go (pieceOf c s) refl h
           | W.word n w ↦ (wordsFrom n (suc p) s >>= λ ts. given (record { word = w; place = p } ∷ ts))
           | W.bad ↦ refused NoWord p
         ] ≡ given (record { word = W.name k; place = p } ∷ us)
-        → k ≡ map capital (runOf (c ∷ s))
+        → k ≡ map capital (take 24 (runOf (c ∷ s)))
     go (W.gap n) x e = absurd (omega (arith, words-place n (suc p) s _ us e))
     go (W.word n w) x e =
         let f = in-front (wordsFrom n (suc p) s) _ _ e .2 in

@@ -15,8 +15,8 @@ use Rattle.paper.specs.declared.Op.the-variants.{Or}
 use Rattle.paper.specs.Source.{Expr, number, truth, variable, element, minus, complement, binary, conversion, brackets, one, range, Stmts, done, assign, choice, select, arm, loop, array, value, flag}
 use Rattle.paper.specs.Reading.{declare}
 use Rattle.tree.specs.Nodes.{wordOf, kindOf, childOf, written}
-use Rattle.tree.specs.Trees.{nameAt, types, operators, kinds, wide, wholeAt, placeAt, ExprForm, numberForm, binaryForm, exprForms, exprAt, labelAt, labelsAt, FrontForm, frontForms, frontAt, namesAt, boundsAt, initialAt, declarationAt, declaredAt, programAt}
-use Rattle.tree.proofs.Frames.{Framed, stepped, child-is, first-same, second-same, place-same, wide-same, whole-same, nilForm, expr-form, expr-same, label-same, labelsStep, labels-node, labels-same, skip, front-form, list-same, namesStep, names-node, names-same, bounds-same, initial-same, declaration-same, declaredStep, declared-node, declared-same}
+use Rattle.tree.specs.Trees.{nameAt, types, operators, kinds, wide, wholeAt, placeAt, ExprForm, numberForm, binaryForm, exprForms, exprAt, labelAt, labelsAt, ArmsForm, armsForms, FrontForm, frontForms, frontAt, armsAt, namesAt, boundsAt, initialAt, declarationAt, declaredAt, programAt}
+use Rattle.tree.proofs.Frames.{Framed, stepped, child-is, child-most, first-same, second-same, place-same, wide-same, whole-same, nilForm, expr-form, expr-same, label-same, labelsStep, labels-node, labels-same, noArms, arms-form, arms-below, arms-same, skip, front-form, list-same, namesStep, names-node, names-same, bounds-same, initial-same, declaration-same, declaredStep, declared-node, declared-same}
 use Rattle.tree.proofs.Puts.{written-same, written-word0, written-word1, written-word2, written-word3}
 
 -- the whole number in two words of a node of the kind k
@@ -56,6 +56,10 @@ module _ (p : List ℕ) (n k a b c : ℕ) (fits : 4 * n + 4 ≤ length p) where
   front-put : (t : List ℕ) (f : FrontForm) (l : Stmts) → 0 < n → getD frontForms (k - 40) skip ≡ f
       → frontAt t pool n l ≡ f t pool n (frontAt t pool) l
   front-put t f l s e = front-form t pool n k f l s (written-word0 p n k a b c fits) e
+
+  arms-put : (t : List ℕ) (f : ArmsForm) → 0 < n → getD armsForms (k - 48) noArms ≡ f
+      → armsAt t pool n ≡ f pool n (frontAt t pool) (armsAt t pool)
+  arms-put t f s e = arms-form t pool n k f s (written-word0 p n k a b c fits) e
 
 -- ---- readings that need no text
 
@@ -219,13 +223,15 @@ module _ (t p : List ℕ) (n a b c : ℕ) (some : 0 < n) (fits : 4 * n + 4 ≤ l
         put-place p n 41 a b c fits,
       )
 
-  pub put-select : (k : Stmts) → a < n → b < n → frontAt t (written p n 42 a b c) n k ≡ select c (exprAt t p a) (frontAt t p b done) k
+  pub put-select : (k : Stmts) → a < n → b < n → frontAt t (written p n 42 a b c) n k ≡ select c (exprAt t p a) (armsAt t p b) k
   unfolding frontForms
   put-select k x y =
+      let q = written p n 42 a b c in
       front-put p n 42 a b c fits t _ k some refl
       ∙ rw (
+        arms-below t q n (childOf q n 2) (child-most q n 2),
         put-first p n 42 a b c fits (exprAt t) (expr-same t) x,
-        put-second p n 42 a b c fits _ (list-same t done) y,
+        put-second p n 42 a b c fits (armsAt t) (arms-same t) y,
         put-place p n 42 a b c fits,
       )
 
@@ -251,15 +257,20 @@ module _ (t p : List ℕ) (n a b c : ℕ) (some : 0 < n) (fits : 4 * n + 4 ≤ l
       front-put p n 44 a b c fits t _ k some refl
       ∙ rw (put-second p n 44 a b c fits _ (list-same t k) y, put-first p n 44 a b c fits _ (list-same t (frontAt t p b k)) x)
 
-  pub put-arm : (k : Stmts) → a < n → b < n → c < n → frontAt t (written p n 48 a b c) n k ≡ arm (labelsAt p a) (frontAt t p b done) (frontAt t p c done)
-  unfolding frontForms
-  put-arm k x y z =
-      front-put p n 48 a b c fits t _ k some refl
+  -- c is what follows the arm
+  pub put-arm : a < n → b < n → c < n → armsAt t (written p n 48 a b c) n ≡ arm (labelsAt p a) (frontAt t p b done) (armsAt t p c)
+  unfolding armsForms
+  put-arm x y z =
+      arms-put p n 48 a b c fits t _ some refl
       ∙ rw (
         put-first p n 48 a b c fits labelsAt labels-same x,
         put-second p n 48 a b c fits _ (list-same t done) y,
-        put-third p n 48 a b c fits _ (list-same t done) z,
+        put-third p n 48 a b c fits (armsAt t) (arms-same t) z,
       )
+
+  pub put-else : a < n → armsAt t (written p n 49 a b c) n ≡ frontAt t p a done
+  unfolding armsForms
+  put-else x = arms-put p n 49 a b c fits t _ some refl ∙ put-first p n 49 a b c fits _ (list-same t done) x
 
   -- ---- declarations
 

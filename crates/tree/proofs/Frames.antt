@@ -2,13 +2,13 @@
 use mathlib.Core.Path.{_≡_, refl, ap, ap₂, _∙_, fun-ext}
 use mathlib.Core.Bool.{true, false}
 use mathlib.Core.List.{List, [], _∷_, _++_}
-use Prim.Native.Nat.{ℕ, suc, _+_, _*_, _-_, _/_, _%_, _≤_, _<_}
+use Prim.Native.Nat.{ℕ, zero, suc, _+_, _*_, _-_, _/_, _%_, _≤_, _<_}
 use native.Mathlib.Omega.{arith}
 use lib.ListN.{getD}
 use Rattle.paper.specs.declared.Ty.the-variants.{Bool as BOOL}
 use Rattle.paper.specs.Source.{Expr, number, truth, variable, element, minus, complement, conversion, brackets, Stmts, done, Label, single, nothing, Named, Declared}
 use Rattle.tree.specs.Nodes.{wordOf, childOf, Same}
-use Rattle.tree.specs.Trees.{nameAt, types, operators, nil, wide, wholeAt, placeAt, ExprForm, numberForm, binaryForm, exprForms, exprFrom, exprAt, labelAt, labelsFrom, labelsAt, FrontForm, frontForms, frontFrom, frontAt, namesFrom, namesAt, boundsAt, initialAt, declarationAt, declaredFrom, declaredAt, programAt}
+use Rattle.tree.specs.Trees.{nameAt, types, operators, nil, wide, wholeAt, placeAt, ExprForm, numberForm, binaryForm, exprForms, exprFrom, exprAt, labelAt, labelsFrom, labelsAt, ArmsForm, armsForms, armsFrom, FrontForm, frontForms, frontFrom, frontAt, armsAt, namesFrom, namesAt, boundsAt, initialAt, declarationAt, declaredFrom, declaredAt, programAt}
 use Rattle.tree.proofs.Decodes.{Local, Decode, decode-node, decode-same, sub-same, kid-same, All, none, _&_, each, all-map}
 pub use Rattle.tree.proofs.Decodes.{Framed, same-less, same-trans, word-same, child-less, child-most, child-is, child-none, child-same, child-node-same, first-same, second-same, stepped}
 
@@ -148,6 +148,61 @@ pub labels-nil : (p : List ℕ) → labelsAt p 0 ≡ []
 unfolding labelsAt labelsFrom
 labels-nil p = refl
 
+-- ---- arms
+
+abbrev pub noArms : ArmsForm
+noArms p i sub more = done
+
+abbrev pub armsStep : List ℕ → ℕ → (ℕ → Stmts → Stmts) → (ℕ → Stmts) → Stmts
+armsStep p i sub more = getD armsForms (wordOf p i 0 - 48) noArms p i sub more
+
+-- the lists and the arms that two readings find below a node are the same
+abbrev LocalArms : ArmsForm → Type 0
+LocalArms f =
+    (old new : List ℕ) (i : ℕ) (x y : ℕ → Stmts → Stmts) (a b : ℕ → Stmts) → 0 < i → Same i old new
+    → ((j : ℕ) → j < i → y j ≡ x j) → ((j : ℕ) → j < i → b j ≡ a j) → f new i y b ≡ f old i x a
+
+arm-local : LocalArms (getD armsForms 0 noArms)
+unfolding armsForms
+arm-local old new i x y a b s h e g =
+    rw (
+      first-same labelsAt labels-same old new i i h (omega arith),
+      kid-same old new i x y e h s 2 (omega arith),
+      kid-same old new i a b g h s 3 (omega arith),
+    )
+
+else-local : LocalArms (getD armsForms 1 noArms)
+unfolding armsForms
+else-local old new i x y a b s h e g = ap (λ f. f done) (kid-same old new i x y e h s 1 (omega arith))
+
+no-arms-local : LocalArms noArms
+no-arms-local old new i x y a b s h e g = refl
+
+arms-forms-local : All LocalArms armsForms
+unfolding armsForms
+arms-forms-local = arm-local & else-local & none
+
+arms-step-local : LocalArms armsStep
+arms-step-local old new i x y a b s h e g =
+    ap (λ w. getD armsForms (w - 48) noArms new i y b) (word-same 0 (omega arith) old new i i h (omega arith))
+    ∙ each LocalArms noArms no-arms-local armsForms arms-forms-local (wordOf old i 0 - 48) old new i x y a b s h e g
+
+-- neither fuel nor later nodes matter
+arms-agree : (f g : ℕ) (old new : List ℕ) (x y : ℕ → Stmts → Stmts) (n i : ℕ) → i ≤ f → i ≤ g → i ≤ n → Same n old new
+    → ((j : ℕ) → j < n → y j ≡ x j) → armsFrom f new y i ≡ armsFrom g old x i
+unfolding armsFrom
+arms-agree zero zero old new x y n i l m b h e = refl
+arms-agree zero (suc g) old new x y n zero l m b h e = refl
+arms-agree zero (suc g) old new x y n (suc i) l m b h e = absurd (omega arith)
+arms-agree (suc f) zero old new x y n zero l m b h e = refl
+arms-agree (suc f) zero old new x y n (suc i) l m b h e = absurd (omega arith)
+arms-agree (suc f) (suc g) old new x y n zero l m b h e = refl
+arms-agree (suc f) (suc g) old new x y n (suc i) l m b h e =
+    arms-step-local old new (suc i) x y (armsFrom g old x) (armsFrom f new y) (omega arith)
+    (same-less old new n (suc i) h (omega arith))
+    (λ j s. e j (omega arith))
+    (λ j s. arms-agree f g old new x y n j (omega arith) (omega arith) (omega arith) h e)
+
 -- ---- statements
 
 abbrev pub skip : FrontForm
@@ -193,7 +248,13 @@ module _ (t old new : List ℕ) (i : ℕ) (x y : ℕ → Stmts → Stmts) (s : 0
 
   select-local : Kept (getD frontForms 2 skip)
   unfolding frontForms
-  select-local = fun-ext (λ k. rw (expr-kept, sub 2 (omega arith), place-kept))
+  select-local =
+      let c = childOf old i 2 in
+      let l : c < i = child-less old i 2 s in
+      let arms : armsFrom i new y (childOf new i 2) ≡ armsFrom i old x c =
+      ap (armsFrom i new y) (here _ (child-node-same 2 (omega arith)))
+      ∙ arms-agree i i old new x y i c (omega arith) (omega arith) (omega arith) h e in
+      fun-ext (λ k. rw (expr-kept, arms, place-kept))
 
   loop-local : Kept (getD frontForms 3 skip)
   unfolding frontForms
@@ -215,11 +276,6 @@ module _ (t old new : List ℕ) (i : ℕ) (x y : ℕ → Stmts → Stmts) (s : 0
   skip-local : Kept skip
   skip-local = refl
 
-  arm-local : Kept (getD frontForms 8 skip)
-  unfolding frontForms
-  arm-local =
-      fun-ext (λ k. rw (here _ (first-same labelsAt labels-same), sub 2 (omega arith), sub 3 (omega arith)))
-
 fronts-local : All LocalForm frontForms
 unfolding frontForms
 fronts-local =
@@ -228,10 +284,6 @@ fronts-local =
     & select-local
     & loop-local
     & list-local
-    & skip-local
-    & skip-local
-    & skip-local
-    & arm-local
     & none
 
 front-local : (t : List ℕ) → Local (frontStep t)
@@ -271,6 +323,36 @@ list-same t k old new n i h l = front-same t old new n i h l k
 pub front-nil : (t p : List ℕ) (k : Stmts) → frontAt t p 0 k ≡ k
 unfolding frontAt frontFrom
 front-nil t p k = refl
+
+-- the arms of a node, as those of its children
+pub arms-node : (t p : List ℕ) (i : ℕ) → armsAt t p (suc i) ≡ armsStep p (suc i) (frontAt t p) (armsAt t p)
+unfolding armsAt armsFrom
+arms-node t p i =
+    arms-step-local p p (suc i) (frontAt t p) (frontAt t p) (armsAt t p) (armsFrom i p (frontAt t p)) (omega arith) (λ k s. refl)
+    (λ j s. refl)
+    (λ j s. arms-agree i j p p (frontAt t p) (frontAt t p) j j (omega arith) (omega arith) (omega arith) (λ k s. refl) (λ k s. refl))
+
+pub arms-form : (t p : List ℕ) (i w : ℕ) (f : ArmsForm) → 0 < i → wordOf p i 0 ≡ w → getD armsForms (w - 48) noArms ≡ f
+    → armsAt t p i ≡ f p i (frontAt t p) (armsAt t p)
+arms-form t p i w f s e g =
+    stepped (armsAt t p) (λ j. armsStep p j (frontAt t p) (armsAt t p)) (arms-node t p) i s
+    ∙ ap (λ h. h p i (frontAt t p) (armsAt t p)) (ap (λ v. getD armsForms (v - 48) noArms) e ∙ g)
+
+-- those of an earlier node, with any fuel
+pub arms-below : (t p : List ℕ) (f i : ℕ) → i ≤ f → armsFrom f p (frontAt t p) i ≡ armsAt t p i
+unfolding armsAt
+arms-below t p f i l =
+    arms-agree f i p p (frontAt t p) (frontAt t p) i i l (omega arith) (omega arith) (λ k s. refl) (λ j s. refl)
+
+pub arms-same : (t : List ℕ) → Framed (armsAt t)
+unfolding armsAt
+arms-same t old new n i h l =
+    arms-agree i i old new (frontAt t old) (frontAt t new) n i (omega arith) (omega arith) l h
+    (λ j s. fun-ext (λ k. front-same t old new n j h (omega arith) k))
+
+pub arms-nil : (t p : List ℕ) → armsAt t p 0 ≡ done
+unfolding armsAt armsFrom
+arms-nil t p = refl
 
 -- ---- declarations
 

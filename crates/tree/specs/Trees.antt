@@ -1,26 +1,22 @@
 -- What a pool holds, for any content: the trees of `paper`. A child that is no earlier node is nil.
 use mathlib.Core.Path.{_≡_}
 use mathlib.Core.Bool.{Bool, true, false, cond}
-use mathlib.Core.List.{List, [], _∷_, _++_, map}
+use mathlib.Core.List.{List, [], _∷_, _++_}
 use Prim.Native.Nat.{ℕ, zero, suc, _+_, _*_, _-_, _/_, _%_, _≤_}
 use lib.Dec.{eqb, leb}
 use lib.IntN.{ℤ, pos, negℤ}
-use lib.ListN.{getD, drop}
+use lib.ListN.{getD}
 use Rattle.paper.specs.declared.Ty.{Ty}
 use Rattle.paper.specs.declared.Ty.the-variants.{Bool as BOOL, Int as INT, Uint as UINT, Dint as DINT, Udint as UDINT}
 use Rattle.paper.specs.declared.Kind.{Kind}
 use Rattle.paper.specs.declared.Kind.the-variants.{Input, Output, Other}
 use Rattle.paper.specs.declared.Op.{Op}
 use Rattle.paper.specs.declared.Op.the-variants.{Mul, Div, Mod, Add, Sub, Lt, Gt, Le, Ge, Eq, Ne, And, Xor, Or}
-use Rattle.paper.specs.Words.{capital, runOf}
-use Rattle.paper.specs.Source.{Name, Expr, number, truth, variable, element, minus, complement, binary, conversion, brackets, Label, one, range, Stmts, done, assign, choice, select, arm, loop, Bounds, single, array, Initial, nothing, value, flag, Named, Declared, Program}
+use Rattle.paper.specs.Source.{Expr, number, truth, variable, element, minus, complement, binary, conversion, brackets, Label, one, range, Stmts, done, assign, choice, select, arm, loop, Bounds, single, array, Initial, nothing, value, flag, Named, Declared, Program}
 use Rattle.paper.specs.Reading.{declare}
 use Rattle.paper.specs.Heights as H
+pub use Rattle.words.specs.Denoted.{nameAt}
 use Rattle.tree.specs.Nodes.{wordOf, kindOf, childOf}
-
--- the name that stands at a place of the text
-abbrev pub nameAt : List ℕ → ℕ → Name
-nameAt t p = map capital (runOf (drop p t))
 
 abbrev pub types : List Ty
 types = BOOL ∷ INT ∷ UINT ∷ DINT ∷ UDINT ∷ []
@@ -110,8 +106,24 @@ labelsAt p i = labelsFrom i p i
 
 -- ---- statements: what a node puts in front of a list
 
+-- the arms of a CASE: kind 48 an arm and what follows it, 49 the ELSE list; nil ends them
+abbrev pub ArmsForm : Type 0
+ArmsForm = List ℕ → ℕ → (ℕ → Stmts → Stmts) → (ℕ → Stmts) → Stmts
+
+unfoldable pub armsForms : List ArmsForm
+armsForms =
+    (λ p i sub more. arm (labelsAt p (childOf p i 1)) (sub (childOf p i 2) done) (more (childOf p i 3)))
+    ∷ (λ p i sub more. sub (childOf p i 1) done)
+    ∷ []
+
+-- `sub` reads a list
+unfoldable pub armsFrom : ℕ → List ℕ → (ℕ → Stmts → Stmts) → ℕ → Stmts
+armsFrom zero p sub i = done
+armsFrom (suc f) p sub zero = done
+armsFrom (suc f) p sub (suc i) = getD armsForms (wordOf p (suc i) 0 - 48) (λ p i sub more. done) p (suc i) sub (armsFrom f p sub)
+
 -- by the kind: 40 assignment, 41 choice (its branches are a node of kind 45), 42 CASE, 43 FOR (its head is kind 46, with its bounds in kind 47),
--- 44 a list and one statement more, 48 an arm
+-- 44 a list and one statement more
 abbrev pub FrontForm : Type 0
 FrontForm = List ℕ → List ℕ → ℕ → (ℕ → Stmts → Stmts) → Stmts → Stmts
 
@@ -121,17 +133,13 @@ frontForms =
     ∷ (λ t p i sub k.
     let j = childOf p i 2 in
     choice (placeAt p i) (placeAt p j) (exprAt t p (childOf p i 1)) (sub (childOf p j 1) done) (sub (childOf p j 2) done) k)
-    ∷ (λ t p i sub k. select (placeAt p i) (exprAt t p (childOf p i 1)) (sub (childOf p i 2) done) k)
+    ∷ (λ t p i sub k. select (placeAt p i) (exprAt t p (childOf p i 1)) (armsFrom i p sub (childOf p i 2)) k)
     ∷ (λ t p i sub k.
     let h = childOf p i 1 in
     let g = childOf p h 1 in
     loop (placeAt p i) (placeAt p h) (nameAt t (placeAt p h)) (exprAt t p (childOf p g 1)) (exprAt t p (childOf p g 2)) (exprAt t p (childOf p h 2))
     (sub (childOf p i 2) done) k)
     ∷ (λ t p i sub k. sub (childOf p i 1) (sub (childOf p i 2) k))
-    ∷ (λ t p i sub k. k)
-    ∷ (λ t p i sub k. k)
-    ∷ (λ t p i sub k. k)
-    ∷ (λ t p i sub k. arm (labelsAt p (childOf p i 1)) (sub (childOf p i 2) done) (sub (childOf p i 3) done))
     ∷ []
 
 unfoldable pub frontFrom : ℕ → List ℕ → List ℕ → ℕ → Stmts → Stmts
@@ -141,6 +149,9 @@ frontFrom (suc f) t p (suc i) k = getD frontForms (wordOf p (suc i) 0 - 40) (λ 
 
 unfoldable pub frontAt : List ℕ → List ℕ → ℕ → Stmts → Stmts
 frontAt t p i = frontFrom i t p i
+
+unfoldable pub armsAt : List ℕ → List ℕ → ℕ → Stmts
+armsAt t p i = armsFrom i p (frontAt t p) i
 
 -- ---- declarations
 

@@ -7,10 +7,10 @@ use native.Mathlib.Numerals.{add-one}
 use native.Mathlib.Omega.{arith}
 use borrow.Author.Tests.{eqb-true, eqb-false, ne-eqb, le-leb, lt-leb, leb-true, leb-false}
 use lib.Dec.{eqb, leb}
-use lib.ListN.{length, getD, drop, length-take, length-drop}
-use lib.Seq.{drop-cons, drop-length}
+use lib.ListN.{length, getD, take, drop, length-take, length-drop}
+use lib.Seq.{drop-cons, drop-length, take-all, take-take}
 use Rattle.paper.specs.Words.{inRun, isDigit, isUnderscore, runOf, parted, allDigits, valueFrom}
-use Rattle.words.specs.Denoted.{part, RunEnds, IsNumeral}
+use Rattle.words.specs.Denoted.{part, RunEnds, NameEnds, IsNumeral}
 use Rattle.words.proofs.Truths.{both}
 
 -- how many bytes a part has
@@ -170,3 +170,25 @@ pub counts-fail : (s : List ℕ) (n : ℕ) (g : Bool) → Counts s [] n g → (g
 unfolding allDigits valueFrom
 counts-fail s n true k h = record { good = sym (rw (k .digits, lt-leb (valueFrom 0 s) 4294967295 (k .beyond refl (h refl)))); value = refl }
 counts-fail s n false k h = record { good = sym (rw (k .digits)); value = refl }
+
+-- ---- names
+
+-- the whole of a short run, and the first 24 bytes of a longer one
+pub short-name : (t : List ℕ) (at e : ℕ) → RunEnds t at e → e - at ≤ 24 → NameEnds t at e
+short-name t at e h l =
+    record {
+      from = h .from;
+      to = h .to;
+      short = l;
+      name = ap (take 24) (h .run) ∙ take-all 24 (part t at e) (omega (arith, length-take (e - at) (drop at t)));
+    }
+
+pub cut-name : (t : List ℕ) (at e : ℕ) → RunEnds t at e → 24 < e - at → NameEnds t at (at + 24)
+cut-name t at e h l =
+    let k : at + 24 - at ≡ 24 = omega arith in
+    record {
+      from = omega arith;
+      to = omega (arith, h .to);
+      short = omega arith;
+      name = ap (take 24) (h .run) ∙ take-take 24 (e - at) (drop at t) (omega arith) ∙ rw k;
+    }

@@ -23,6 +23,19 @@ part t a e = take (e - a) (drop a t)
 abbrev pub folded : List ℕ → ℕ → ℕ → List ℕ
 folded t a e = map capital (part t a e)
 
+-- the name at a place: the run there, at most 24 bytes of it; and in capitals
+abbrev pub spelledAt : List ℕ → ℕ → List ℕ
+spelledAt t p = take 24 (runOf (drop p t))
+
+abbrev pub nameAt : List ℕ → ℕ → List ℕ
+nameAt t p = map capital (spelledAt t p)
+
+pub record NameEnds (t : List ℕ) (at r : ℕ) : Type 0 where
+  pub from : at ≤ r
+  pub to : r ≤ length t
+  pub short : r - at ≤ 24
+  pub name : spelledAt t at ≡ part t at r
+
 -- ---- classes
 
 -- the reserved words and behind them the signs: the class of an entry is 3 more than its number

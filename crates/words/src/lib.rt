@@ -2,10 +2,10 @@
 ghost use mathlib.Core.Path.{_≡_};
 ghost use Prim.Native.Nat.{_+_, _-_, _*_, _≤_, _<_};
 ghost use mathlib.Core.Bool.{Bool, true, false};
-ghost use lib.ListN.{length, getD, replicate};
+ghost use lib.ListN.{length, getD, drop, replicate};
 ghost use mathlib.Core.List.{_++_};
 ghost use Rattle.paper.specs.Words.{isBlank, isDigit, inRun, isUnderscore, capital, parted, allDigits, sameBytes};
-ghost use Rattle.words.specs.Denoted.{part, folded, CommentEnds, Skips, RunEnds, IsNumeral, IsEntry, IsRunClass, IsSign, IsSignLength, IsNumberAt, IsNameAt, IsWordAt, IsWord, IsFirstBad};
+ghost use Rattle.words.specs.Denoted.{part, folded, spelledAt, nameAt, NameEnds, CommentEnds, Skips, RunEnds, IsNumeral, IsEntry, IsRunClass, IsSign, IsSignLength, IsNumberAt, IsNameAt, IsWordAt, IsWord, IsFirstBad};
 
 // The classes of a word. From RESERVED on they number the entries of the list of reserved words, from SIGN on those of the signs.
 pub const ENDING: u8 = 0;
@@ -385,8 +385,8 @@ fn fold(text: &[u8], at: usize, end: usize) -> [u8; 24]
     out
 }
 
-// Whether two names of at most 24 bytes are the same, case of letters aside.
-pub fn same_name(text: &[u8], a: usize, ae: usize, b: usize, be: usize) -> bool
+// Whether two parts of at most 24 bytes are the same, case of letters aside.
+fn same_part(text: &[u8], a: usize, ae: usize, b: usize, be: usize) -> bool
     requires { ⌜ (a ≤ ae) × (ae ≤ length (now text)) × (ae - a ≤ 24) × (b ≤ be) × (be ≤ length (now text)) × (be - b ≤ 24) ⌝ }
     ensures { λ r. ⌜ r ≡ sameBytes (folded (now (text .entry)) a ae) (folded (now (text .entry)) b be) ⌝ }
 {
@@ -404,4 +404,41 @@ pub fn same_name(text: &[u8], a: usize, ae: usize, b: usize, be: usize) -> bool
         i += 1;
     }
     true
+}
+
+// A place inside the text, or its end.
+fn inside(text: &[u8], at: usize) -> usize
+    ensures { λ r. ⌜ (r ≤ length (now (text .entry))) × (drop r (now (text .entry)) ≡ drop at (now (text .entry))) ⌝ }
+{
+    let n = text.len();
+    if at < n { at } else { n }
+}
+
+// Where the name at a place ends.
+fn name_end(text: &[u8], at: usize) -> usize
+    requires { ⌜ at ≤ length (now text) ⌝ }
+    ensures { λ r. ⌜ NameEnds (now (text .entry)) at r ⌝ }
+{
+    let e = run_end(text, at);
+    if e - at <= 24 { e } else { at + 24 }
+}
+
+// The name at a place, as that part of the text.
+pub fn name_of(text: &[u8], at: usize) -> &[u8]
+    ensures { λ r. ⌜ now r ≡ spelledAt (now (text .entry)) at ⌝ }
+{
+    let a = inside(text, at);
+    let e = name_end(text, a);
+    &text[a..e]
+}
+
+// Whether the names at two places are the same, case of letters aside.
+pub fn same_name(text: &[u8], a: usize, b: usize) -> bool
+    ensures { λ r. ⌜ r ≡ sameBytes (nameAt (now (text .entry)) a) (nameAt (now (text .entry)) b) ⌝ }
+{
+    let i = inside(text, a);
+    let ie = name_end(text, i);
+    let j = inside(text, b);
+    let je = name_end(text, j);
+    same_part(text, i, ie, j, je)
 }
