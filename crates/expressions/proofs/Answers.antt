@@ -19,7 +19,7 @@ use Rattle.expressions.specs.declared.Parsed.{Parsed}
 use Rattle.expressions.specs.Reads.{Answered, Runs, Passed, KeyIs, ExpectDid}
 
 -- no refusal has the number 0
-code-pos : (w : Why) → numberOf w ≡ 0 → ⊥
+pub code-pos : (w : Why) → numberOf w ≡ 0 → ⊥
 code-pos TooLong e = omega arith
 code-pos NoWord e = omega arith
 code-pos BadShape e = omega arith
@@ -71,16 +71,13 @@ module _ {A : Type 0} (D : ℕ → A) (t : List ℕ) (e n : ℕ) where
   pass-good (refused w p) k q r a z g = absurd (code-pos w (sym (a .0) ∙ z))
   pass-good (given us) k q r a z g = g us refl (a .1)
 
--- behind a key are no more words than before it
-pub behind-less : (ts : List Token) → length (R.behind ts) ≤ length ts
-behind-less [] = omega arith
-behind-less (x ∷ ts) = omega arith
-
-expect-less : (s : String) (ts us : List Token) → R.expect s ts ≡ given us → length us ≤ length ts
-expect-less s ts us h = go (R.sees s ts) h
+-- behind a key is one word less
+pub expect-one : (s : String) (ts us : List Token) → R.expect s ts ≡ given us → length us + 1 ≤ length ts
+expect-one s [] us h = let x : _≡_ {A = ℕ} 0 1 = cc in absurd (omega arith)
+expect-one s (k ∷ ts) us h = go (R.sees s (k ∷ ts)) h
   where
-    go : (b : Bool) → _≡_ {A = Answer (List Token)} (elim b [ true ↦ given (R.behind ts) | false ↦ R.broken ts ]) (given us) → length us ≤ length ts
-    go true e = let x : R.behind ts ≡ us = cc in omega (arith, behind-less ts, ap length x)
+    go : (b : Bool) → _≡_ {A = Answer (List Token)} (elim b [ true ↦ given ts | false ↦ R.broken (k ∷ ts) ]) (given us) → length us + 1 ≤ length (k ∷ ts)
+    go true e = let x : ts ≡ us = cc in omega (arith, ap length x)
     go false e = let x : _≡_ {A = ℕ} 0 1 = cc in absurd (omega arith)
 
 -- ---- under a node of its own: what a first part gave is made one tree
@@ -121,4 +118,4 @@ module _ (t : List ℕ) (at nest : ℕ) (C : ℕ → Expr) (q : Parsed) (x : Run
         bind-good D t 1 (length ts) C 1 (length ts) (R.expression f (suc nest) 1 ts)
         (λ a. R.expect s (a .rest) >>= λ c. ok (mk (a .it)) c) q r (inner ts h f l) z
         (λ us w g. pass-good D t 1 (length ts) (R.expect s us) _ o r (E .taken us w s key) y
-        (λ vs v b. done D t 1 (length ts) (mk (C (q .root))) vs r (o .at) k m er d b (omega (arith, expect-less s us vs v))))
+        (λ vs v b. done D t 1 (length ts) (mk (C (q .root))) vs r (o .at) k m er d b (omega (arith, expect-one s us vs v))))

@@ -4,6 +4,6 @@ pub mod Tokens
 pub mod Answers
 pub mod Nodes
 pub mod Steps
-mod Moves
+pub mod Moves
 mod Primaries
 mod Joins

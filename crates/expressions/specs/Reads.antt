@@ -136,6 +136,7 @@ Passed t (given us) r = (r .code ≡ 0) × (wordsAt t (r .at) ≡ given us)
 pub record ExpectDid (t : List ℕ) (at c n : ℕ) (r : Parsed) : Type 0 where
   pub within : Within (length t) at n r
   pub count : r .count ≡ n
+  pub nil : r .root ≡ 0
   -- past a word of the text, of which 255 and 0 are no classes, or refused
   pub step : eqb c 255 ≡ false → eqb c 0 ≡ false → at < r .at + r .code
   pub taken : (ts : List Token) → wordsAt t at ≡ given ts → (s : String) → KeyIs s c

@@ -2,3 +2,4 @@ pub mod Residues
 pub mod Runs
 pub mod Results
 pub mod Tempting
+pub mod Counts

@@ -2,8 +2,8 @@
 ghost use mathlib.Core.Path.{_≡_};
 ghost use Prim.Native.Nat.{_+_, _*_, _<_, _≤_};
 ghost use lib.ListN.{length};
-ghost use Rattle.tree.specs.Nodes.{wordOf, childOf, written};
-ghost use Rattle.tree.specs.Trees.{IsHeight};
+ghost use Rattle.tree.specs.Nodes.{wordOf, kindOf, childOf, written};
+ghost use Rattle.tree.specs.Trees.{wide, wholeAt, IsHeight};
 
 // Writes the node `n`.
 pub fn put(pool: &mut [u16], n: usize, kind: u16, a: u16, b: u16, c: u16)
@@ -58,4 +58,31 @@ pub fn height_of(pool: &[u16], i: usize) -> usize
     }
     let b = height_of(pool, child(pool, i, 2));
     if a < b { b + 1 } else { a + 1 }
+}
+
+// The kind of a node, 0 of nil.
+pub fn kind(pool: &[u16], i: usize) -> u16
+    requires { ⌜ 4 * i + 4 ≤ length (now pool) ⌝ }
+    ensures { λ r. ⌜ r ≡ kindOf (now (pool .entry)) i ⌝ }
+{
+    if i == 0 { 0 } else { word(pool, i, 0) }
+}
+
+// The number in two words of a node.
+pub fn wide_at(pool: &[u16], i: usize) -> u32
+    requires { ⌜ 4 * i + 4 ≤ length (now pool) ⌝ }
+    ensures { λ r. ⌜ r ≡ wide (now (pool .entry)) i ⌝ }
+{
+    let low = word(pool, i, 1) as u32;
+    let high = word(pool, i, 2) as u32;
+    low + 65536 * high
+}
+
+// The same with its minus, if the kind says so.
+pub fn whole(pool: &[u16], i: usize) -> i64
+    requires { ⌜ 4 * i + 4 ≤ length (now pool) ⌝ }
+    ensures { λ r. ⌜ r ≡ wholeAt (now (pool .entry)) i ⌝ }
+{
+    let n = wide_at(pool, i) as i64;
+    if word(pool, i, 0) == 2 { -n } else { n }
 }

@@ -33,6 +33,7 @@ module _ (t : List ℕ) (at c n : ℕ) (w : Word) (i : IsWord t at w) where
       record {
         within = record { from = omega (arith, i .from, i .on); to = i .to; more = omega arith; room = omega (arith, i .from, i .on); rooted = omega arith };
         count = refl;
+        nil = refl;
         step = λ p q. omega (arith, i .from, i .moves (rw e p) (rw e q));
         taken = λ ts h s k. rw (sees-class ts h s k, eq-eqb (w .class) c e, R.expect) (refl, next-of t at ts w i h .behind (rw e (never-ending s c k)));
       }
@@ -43,6 +44,7 @@ module _ (t : List ℕ) (at c n : ℕ) (w : Word) (i : IsWord t at w) where
       record {
         within = record { from = i .from; to = omega (arith, i .on, i .to); more = omega arith; room = omega (arith, i .from); rooted = omega arith };
         count = refl;
+        nil = refl;
         step = λ p q. omega (arith, i .from);
         taken = λ ts h s k. rw (sees-class ts h s k, ne-eqb (w .class) c e, R.expect) (refl, sym (next-of t at ts w i h .here));
       }

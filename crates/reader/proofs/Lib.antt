@@ -1,0 +1,9 @@
+pub mod Answers
+pub mod Naming
+pub mod Bounds
+pub mod Values
+pub mod Typings
+pub mod Declaring
+pub mod Sectioning
+pub mod Bodies
+pub mod Programs

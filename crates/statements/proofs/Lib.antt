@@ -1,0 +1,16 @@
+pub mod Runs
+mod Parts
+mod Rooms
+mod Ways
+mod Nodes
+mod Starting
+mod Lists
+mod Begins
+mod Headed
+mod Choices
+mod Selections
+mod Loops
+mod Numbers
+mod Labelled
+mod Assignments
+mod Heads
