@@ -13,7 +13,7 @@ use Rattle.paper.specs.Source.{Name, Declared}
 use Rattle.paper.specs.Names.{Variable, sizeOf, placed, find, isAmong}
 use Rattle.tree.specs.Nodes.{wordOf}
 use Rattle.tree.specs.Trees.{nameAt}
-use Rattle.variables.specs.Table.{entryAt, entries, variablesIn, namesTo}
+use Rattle.variables.specs.Table.{entryAt, entries, variablesIn, listedTo, listedIn, namesTo}
 
 -- ---- variables
 
@@ -32,6 +32,18 @@ module _ (s : Name) where
   find-none : (n : ℕ) → find s (placed n []) ≡ none
   unfolding find placed
   find-none n = refl
+
+  find-other : (v : Variable) (vs : List Variable) → sameBytes s (v .declared .name) ≡ false → find s (v ∷ vs) ≡ find s vs
+  unfolding find
+  find-other v vs h = rw (h, find)
+
+  find-this : (v : Variable) (vs : List Variable) → sameBytes s (v .declared .name) ≡ true → find s (v ∷ vs) ≡ some v
+  unfolding find
+  find-this v vs h = rw (h, find)
+
+  find-nothing : find s [] ≡ none
+  unfolding find
+  find-nothing = refl
 
 module _ (t tab : List ℕ) (place : ℕ) where
   abbrev Other : ℕ → Type 0
@@ -91,6 +103,45 @@ module _ (t tab : List ℕ) (place : ℕ) where
     found-none h =
         let q = passed (length tab / 4) 0 [] h in
         ap (λ xs. find s (placed 0 xs)) (sym (append-nil (entries t p tab (length tab / 4)))) ∙ q .1 ∙ find-none s (q .0)
+
+    -- ---- the same in the table as it stands
+
+    abbrev listing : ℕ → Variable
+    listing k = record { declared = entryAt t p tab k; first = wordOf tab k 2 }
+
+    passed-listed : (n : ℕ) (vs : List Variable) → NoneTo n → find s (listedTo t p tab n ++ vs) ≡ find s vs
+    unfolding listedTo
+    passed-listed zero vs h = refl
+    passed-listed (suc n) vs h =
+        ap (find s) (append-assoc (listedTo t p tab n) (listing n ∷ []) vs)
+        ∙ passed-listed n (listing n ∷ vs) (λ k l. h k (omega arith))
+        ∙ find-other s (listing n) vs (h n (omega arith))
+
+    -- the first n are the first r, the next, and others
+    split-listed : (n r : ℕ) → r < n → (vs : List Variable) × (listedTo t p tab n ≡ listedTo t p tab r ++ listing r ∷ vs)
+    unfolding listedTo
+    split-listed zero r h = absurd (omega arith)
+    split-listed (suc n) r h = go (eqb r n) refl (λ l. split-listed n r l)
+      where
+        go : (b : Bool) → eqb r n ≡ b → (r < n → (vs : List Variable) × (listedTo t p tab n ≡ listedTo t p tab r ++ listing r ∷ vs))
+            → (vs : List Variable) × (listedTo t p tab (suc n) ≡ listedTo t p tab r ++ listing r ∷ vs)
+        go true e next = ([], ap (λ k. listedTo t p tab k ++ listing k ∷ []) (sym (eqb-true r n e)))
+        go false e next =
+            let q = next (omega (arith, eqb-false r n e)) in (
+              q .0 ++ listing n ∷ [],
+              ap (λ xs. xs ++ listing n ∷ []) (q .1) ∙ append-assoc (listedTo t p tab r) (listing r ∷ q .0) (listing n ∷ []),
+            )
+
+    pub listed-at : (r : ℕ) → r < length tab / 4 → NoneTo r → sameBytes s (nameAt t (wordOf tab r 0)) ≡ true → find s (listedIn t p tab) ≡ some (listing r)
+    unfolding listedIn
+    listed-at r l h e =
+        let q = split-listed (length tab / 4) r l in
+        ap (find s) (q .1) ∙ passed-listed r (listing r ∷ q .0) h ∙ find-this s (listing r) (q .0) e
+
+    pub listed-none : NoneTo (length tab / 4) → find s (listedIn t p tab) ≡ none
+    unfolding listedIn
+    listed-none h =
+        ap (find s) (sym (append-nil (listedTo t p tab (length tab / 4)))) ∙ passed-listed (length tab / 4) [] h ∙ find-nothing s
 
 -- ---- places
 

@@ -56,12 +56,24 @@ entries t p tab (suc n) = entries t p tab n ++ entryAt t p tab n ∷ []
 unfoldable pub variablesIn : List ℕ → List ℕ → List ℕ → List Variable
 variablesIn t p tab = placed 0 (entries t p tab (length tab / 4))
 
+-- the first n with the first cells that the table gives, and all
+unfoldable pub listedTo : List ℕ → List ℕ → List ℕ → ℕ → List Variable
+listedTo t p tab zero = []
+listedTo t p tab (suc n) = listedTo t p tab n ++ record { declared = entryAt t p tab n; first = wordOf tab n 2 } ∷ []
+
+unfoldable pub listedIn : List ℕ → List ℕ → List ℕ → List Variable
+listedIn t p tab = listedTo t p tab (length tab / 4)
+
 -- the number of the variable of a name, or how many there are
 pub record Finds (t tab : List ℕ) (place r : ℕ) : Type 0 where
   pub most : r ≤ length tab / 4
   pub found : r < length tab / 4 → (p : List ℕ)
       → (m : ℕ) × (find (nameAt t place) (variablesIn t p tab) ≡ some (record { declared = entryAt t p tab r; first = m }))
   pub missing : length tab / 4 ≤ r → (p : List ℕ) → find (nameAt t place) (variablesIn t p tab) ≡ none
+  -- the same in the table as it stands
+  pub listed : r < length tab / 4 → (p : List ℕ)
+      → find (nameAt t place) (listedIn t p tab) ≡ some (record { declared = entryAt t p tab r; first = wordOf tab r 2 })
+  pub unlisted : length tab / 4 ≤ r → (p : List ℕ) → find (nameAt t place) (listedIn t p tab) ≡ none
 
 -- ---- names by their places, the last first
 

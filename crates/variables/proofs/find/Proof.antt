@@ -4,7 +4,7 @@ use Prim.Native.Nat.{_/_, _-_, _≤_}
 use native.Mathlib.Omega.{arith}
 use borrow.Author.Needs.{needs}
 use lib.ListN.{length}
-use Rattle.variables.proofs.Lookups.{NoneTo, none-next, found-at, found-none}
+use Rattle.variables.proofs.Lookups.{NoneTo, none-next, found-at, found-none, listed-at, listed-none}
 use Rattle.variables.proofs.find.Statement.{statement}
 use Rattle.variables.proofs.find.Tie as tie
 
@@ -35,6 +35,8 @@ returns c =
       most = L .loop .inv .0;
       found = λ l p. found-at (A .text .now) (A .table .now) (A .place) p (L .loop .i) l (L .loop .inv .1) (rw (c .before .before .word .ensures) at same);
       missing = λ l p. absurd (omega arith);
+      listed = λ l p. listed-at (A .text .now) (A .table .now) (A .place) p (L .loop .i) l (L .loop .inv .1) (rw (c .before .before .word .ensures) at same);
+      unlisted = λ l p. absurd (omega arith);
     }
 
 add-i : tie.Need-add-i Inv-loop μ-loop
@@ -58,6 +60,8 @@ returns-2 c =
       most = omega arith;
       found = λ l p. absurd (omega arith);
       missing = λ l p. found-none (A .text .now) (A .table .now) (A .place) p (rw done at (c .before .loop .inv .1));
+      listed = λ l p. absurd (omega arith);
+      unlisted = λ l p. listed-none (A .text .now) (A .table .now) (A .place) p (rw done at (c .before .loop .inv .1));
     }
 
 pub find-spec : {M : Type 1} → statement M

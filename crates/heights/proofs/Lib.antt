@@ -1,0 +1,4 @@
+mod Withs
+mod Expressions
+mod Labels
+mod Lists
