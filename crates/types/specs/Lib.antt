@@ -1,0 +1,3 @@
+pub mod Says
+pub mod Joins
+pub mod Statements
