@@ -113,7 +113,7 @@ module _ (p : List ℕ) (n a b c : ℕ) (some : 0 < n) (fits : 4 * n + 4 ≤ len
   put-flag false = rw (kind p n 36 a b c fits some, put-place p n 36 a b c fits)
 
 -- the form of an operator
-map-at : {A B : Type 0} (f : A → B) (xs : List A) (i : ℕ) (d : B) (z : A) → i < length xs → getD (map f xs) i d ≡ f (getD xs i z)
+pub map-at : {A B : Type 0} (f : A → B) (xs : List A) (i : ℕ) (d : B) (z : A) → i < length xs → getD (map f xs) i d ≡ f (getD xs i z)
 map-at f [] i d z l = absurd (omega arith)
 map-at f (x ∷ xs) zero d z l = refl
 map-at f (x ∷ xs) (suc i) d z l = map-at f xs i d z (omega arith)

@@ -1,0 +1,9 @@
+pub mod After
+pub mod Lookups
+pub mod Exprs
+pub mod Places
+pub mod Fronts
+pub mod Nodes
+pub mod Declaring
+pub mod Filling
+pub mod Judging
