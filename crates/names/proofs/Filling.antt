@@ -70,7 +70,7 @@ module _ (t p : List ℕ) where
   cells-more n ds d = cells-append n ds (d ∷ [])
 
   -- fewer of them
-  entries-take : (tab : List ℕ) (n k : ℕ) → k ≤ n → take k (entries t p tab n) ≡ entries t p tab k
+  pub entries-take : (tab : List ℕ) (n k : ℕ) → k ≤ n → take k (entries t p tab n) ≡ entries t p tab k
   unfolding entries
   entries-take tab zero k l = let z : k ≡ 0 = omega arith in rw z
   entries-take tab (suc n) k l = go (ltb n k) refl (λ s. entries-take tab n k s)

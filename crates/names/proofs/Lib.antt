@@ -7,3 +7,4 @@ pub mod Nodes
 pub mod Declaring
 pub mod Filling
 pub mod Judging
+pub mod Listed
