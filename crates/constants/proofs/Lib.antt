@@ -1,0 +1,5 @@
+pub mod Given
+pub mod Nodes
+mod Types
+mod Cells
+mod Values

@@ -1,0 +1,15 @@
+-- `constants::conversion_of` meets its contract.
+use Rattle.paper.specs.Types.{convert}
+use Rattle.constants.proofs.Given.{given-on}
+use borrow.Author.Needs.{needs}
+use Rattle.constants.proofs.conversion_of.Statement.{statement}
+use Rattle.constants.proofs.conversion_of.Tie as tie
+
+converted-requires : tie.Need-converted-requires
+converted-requires c κs = search needs
+
+returns : tie.Need-returns
+returns c = given-on (c .before .args .x .some) (c .before .args .x .residue) (convert (c .before .args .t) (c .before .args .u)) _ (c .converted .ensures)
+
+pub conversion-of-spec : {M : Type 1} → statement M
+conversion-of-spec = tie.close (tie.spec converted-requires returns)
