@@ -7,3 +7,6 @@ pub mod Steps
 pub mod Moves
 mod Primaries
 mod Joins
+mod Turns
+mod Inside
+mod Written

@@ -273,7 +273,7 @@ pub fn expression(
     joined(text, r.at, least, nest, pool, r.count, r.root)
 }
 
-// What follows the operand at the node `left`; equal operators group to the left.
+// What follows the operand at the node `left`; equal operators group to the left. A loop, so that a long chain takes no more stack.
 fn joined(
     text: &[u8],
     at: usize,
@@ -286,28 +286,37 @@ fn joined(
     requires { ⌜ Room (now text) (now pool) at count × (0 < least) × (left ≤ count) ⌝ }
     ensures { λ r. ⌜ JoinedDid (now (text .entry)) (now (pool .entry)) (now (pool .exit)) at least nest count left r ⌝ }
 {
-    let w = next_word(text, at);
-    let o = operator(w.class);
-    let l = level(o);
-    if l < least {
-        return Parsed {
-            code: 0,
-            at,
-            count,
-            root: left,
-        };
+    let mut end = at;
+    let mut last = count;
+    let mut root = left;
+    loop {
+        let w = next_word(text, end);
+        let o = operator(w.class);
+        let l = level(o);
+        if l < least {
+            break;
+        }
+        let r = expression(text, w.end, l + 1, nest, pool, last);
+        if r.code != 0 {
+            return r;
+        }
+        let n = r.count + 1;
+        put(
+            pool,
+            n,
+            11 + (o as u16),
+            root as u16,
+            r.root as u16,
+            w.at as u16,
+        );
+        end = r.at;
+        last = n;
+        root = n;
     }
-    let r = expression(text, w.end, l + 1, nest, pool, count);
-    if r.code != 0 {
-        return r;
+    Parsed {
+        code: 0,
+        at: end,
+        count: last,
+        root,
     }
-    put(
-        pool,
-        r.count + 1,
-        11 + (o as u16),
-        left as u16,
-        r.root as u16,
-        w.at as u16,
-    );
-    joined(text, r.at, least, nest, pool, r.count + 1, r.count + 1)
 }

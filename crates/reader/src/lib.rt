@@ -51,16 +51,23 @@ fn names(text: &[u8], at: usize, pool: &mut [u16], count: usize, before: usize) 
     requires { ⌜ Room (now text) (now pool) at count × (before ≤ count) ⌝ }
     ensures { λ r. ⌜ NamesDid (now (text .entry)) (now (pool .entry)) (now (pool .exit)) at count before r ⌝ }
 {
-    let w = next_word(text, at);
-    if w.class != NAME {
-        return broken(w.at, count);
+    let mut from = at;
+    let mut nodes = count;
+    let mut root = before;
+    loop {
+        let w = next_word(text, from);
+        if w.class != NAME {
+            return broken(w.at, nodes);
+        }
+        put(pool, nodes + 1, 33, root as u16, 0, w.at as u16);
+        nodes += 1;
+        root = nodes;
+        let c = next_word(text, w.end);
+        if c.class != COMMA {
+            return leaf(w.end, nodes);
+        }
+        from = c.end;
     }
-    put(pool, count + 1, 33, before as u16, 0, w.at as u16);
-    let c = next_word(text, w.end);
-    if c.class == COMMA {
-        return names(text, c.end, pool, count + 1, count + 1);
-    }
-    leaf(w.end, count + 1)
 }
 
 // An array's bounds, if they come next; nil if not. The kind is 2 for VAR.

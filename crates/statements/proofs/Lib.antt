@@ -1,6 +1,6 @@
 pub mod Runs
 mod Parts
-mod Rooms
+pub mod Rooms
 mod Ways
 mod Nodes
 mod Starting

@@ -55,24 +55,32 @@ pub fn list(
     requires { ⌜ Room (now text) (now pool) at count × (before ≤ count) ⌝ }
     ensures { λ r. ⌜ ListDid (now (text .entry)) (now (pool .entry)) (now (pool .exit)) at depth count before r ⌝ }
 {
-    let s = statement(text, at, depth, pool, count);
-    if s.code != 0 {
-        return s;
-    }
-    let e = expect(text, s.at, SEMICOLON, s.count);
-    if e.code != 0 {
-        return e;
-    }
-    let l = linked(pool, s.count, before, s.root);
-    let w = next_word(text, e.at);
-    if starts(w.class) {
-        return list(text, e.at, depth, pool, l.count, l.root);
+    let mut from = at;
+    let mut nodes = count;
+    let mut root = before;
+    loop {
+        let s = statement(text, from, depth, pool, nodes);
+        if s.code != 0 {
+            return s;
+        }
+        let e = expect(text, s.at, SEMICOLON, s.count);
+        if e.code != 0 {
+            return e;
+        }
+        let l = linked(pool, s.count, root, s.root);
+        from = e.at;
+        nodes = l.count;
+        root = l.root;
+        let w = next_word(text, from);
+        if !starts(w.class) {
+            break;
+        }
     }
     Parsed {
         code: 0,
-        at: e.at,
-        count: l.count,
-        root: l.root,
+        at: from,
+        count: nodes,
+        root,
     }
 }
 
@@ -376,19 +384,27 @@ fn labels(text: &[u8], at: usize, pool: &mut [u16], count: usize, before: usize)
     requires { ⌜ Room (now text) (now pool) at count × (before ≤ count) ⌝ }
     ensures { λ r. ⌜ LabelsDid (now (text .entry)) (now (pool .entry)) (now (pool .exit)) at count before r ⌝ }
 {
-    let l = label(text, at, pool, count);
-    if l.code != 0 {
-        return l;
+    let mut from = at;
+    let mut nodes = count;
+    let mut root = before;
+    loop {
+        let l = label(text, from, pool, nodes);
+        if l.code != 0 {
+            return l;
+        }
+        let w = next_word(text, l.at);
+        if w.class != COMMA && w.class != COLON {
+            return broken(w.at, l.count);
+        }
+        put(pool, l.count + 1, 32, root as u16, l.root as u16, 0);
+        from = w.end;
+        nodes = l.count + 1;
+        root = nodes;
+        if w.class == COLON {
+            break;
+        }
     }
-    let w = next_word(text, l.at);
-    if w.class != COMMA && w.class != COLON {
-        return broken(w.at, l.count);
-    }
-    put(pool, l.count + 1, 32, before as u16, l.root as u16, 0);
-    if w.class == COMMA {
-        return labels(text, w.end, pool, l.count + 1, l.count + 1);
-    }
-    leaf(w.end, l.count + 1)
+    leaf(from, nodes)
 }
 
 // A number with or without minus, or two joined by `..`.

@@ -4,7 +4,6 @@ use borrow.Author.Needs.{needs}
 use mathlib.Core.Path.{_≡_, refl}
 use Prim.Native.Nat.{ℕ, _<_, _≤_, _+_, _-_, _*_}
 use native.Mathlib.Omega.{arith}
-use lib.Dec.{eqb}
 use lib.ListN.{length}
 use mathlib.Core.Bool.{true, false}
 use Rattle.paper.specs.Words as W
@@ -13,13 +12,14 @@ use Rattle.paper.specs.Reading as R
 use Rattle.tree.specs.Trees.{exprAt, nameAt}
 use Rattle.expressions.specs.Reads.{unary, wrapped}
 use Rattle.expressions.proofs.Tokens.{key-round-end, key-square-end}
-use Rattle.expressions.proofs.Moves.{class-moves, operator-class, conversion-class, level-small}
-use Rattle.expressions.proofs.Answers.{under-bad, under-good, closed-bad, closed-open, closed-good}
-use Rattle.expressions.proofs.Nodes.{both-same, put-same, put-plain, put-below, put-flag, put-name, put-indexed, put-joined, put-unary, put-wrapped}
+use Rattle.expressions.proofs.Moves.{class-moves, conversion-class}
+use Rattle.expressions.proofs.Inside.{inside-bad, inside-open, inside-good}
+use Rattle.expressions.proofs.Written.{leaf-did, over-bad, over-good}
+use Rattle.expressions.proofs.Nodes.{both-same, put-same, put-plain, put-below, put-flag, put-name, put-indexed, put-unary, put-wrapped}
 use Rattle.expressions.proofs.Steps.{bracketed-other, bracketed-deep, bracketed-on, named-plain, named-deep, named-on, operand-negative, operand-minus, operand-not, operand-plain}
 use Rattle.expressions.proofs.Primaries.{primary-name, primary-number, primary-truth, primary-conversion, primary-brackets}
-use Rattle.expressions.proofs.Joins.{operator-known, expression-bad, expression-good, joined-stop, joined-bad, joined-good}
-use Prim.Native.Nat.{ℕ, _<_}
+use Rattle.expressions.proofs.Joins.{expression-bad, expression-good}
+use Rattle.expressions.proofs.Turns.{Carries, turn-stop, turn-moves, turn-bad, turn-good}
 use borrow.Fn.Kinds.{In}
 use borrow.Fn.PlainCycle.{Measures, is, falls, and}
 use Rattle.expressions.proofs.bracketed.Reads as bracketed
@@ -184,15 +184,10 @@ bracketed-same-length t c = search needs
 bracketed-returns-3 : (t : ℕ) → bracketed-lts.Need-returns-3 (bracketed-env t) (bracketed-at t) bracketed.Post
 bracketed-returns-3 t c =
     let A = c .before .before .before .before .before .before .before .before .before .before .before .before .args in
-    let m = bracketed-moves t (c .before .before .before .before .before .before .before) in
-    let D = exprAt (A .text .now) (c .before .before .before .before .expression .last .1 .1 .1 .1 .0) in (
+    let m = bracketed-moves t (c .before .before .before .before .before .before .before) in (
       search needs,
-      record {
-        within = search needs;
-        same = c .before .before .before .before .expression .ensures .same;
-        runs = bracketed-on (A .text .now) (A .at) (A .nest) _ (c .before .before .before .before .before .before .before .before .before .next-word .ensures) D _ (c .before .before .before .before .before .before .before .if1 .left) (c .before .before .before .before .before .before .if2 .left)
-            (closed-bad (A .text .now) _ (A .nest) D _ (c .before .before .before .before .expression .ensures .runs) ")" (λ x. x) D (c .if3 .taken));
-      },
+      inside-bad (A .text .now) (A .pool .now) (A .at) (A .at) (A .nest) (A .count) 1 _ (c .before .before .before .before .before .before .before .before .before .next-word .ensures) m (omega arith) ")" (λ x. x) _
+          (λ D r. bracketed-on (A .text .now) (A .at) (A .nest) _ (c .before .before .before .before .before .before .before .before .before .next-word .ensures) D r (c .before .before .before .before .before .before .before .if1 .left) (c .before .before .before .before .before .before .if2 .left)) _ _ (c .before .before .before .before .expression .ensures) (c .if3 .taken),
     )
 
 bracketed-expect-requires : (t : ℕ) → bracketed-lts.Need-expect-requires (bracketed-env t) (bracketed-at t) bracketed.Post
@@ -204,15 +199,10 @@ bracketed-same-length-2 t c = search needs
 bracketed-returns-4 : (t : ℕ) → bracketed-lts.Need-returns-4 (bracketed-env t) (bracketed-at t) bracketed.Post
 bracketed-returns-4 t c =
     let A = c .before .before .before .before .before .before .before .before .before .before .before .before .before .before .before .args in
-    let m = bracketed-moves t (c .before .before .before .before .before .before .before .before .before .before) in
-    let D = exprAt (A .text .now) (c .before .before .before .before .before .before .before .expression .last .1 .1 .1 .1 .0) in (
+    let m = bracketed-moves t (c .before .before .before .before .before .before .before .before .before .before) in (
       omega (arith, c .before .before .expect .ensures, c .before .before .before .before .before .before .before .expression .ensures .within, c .before .before .before .before .before .before .before .before .before .before .before .before .next-word .ensures, c .before .before .before .before .before .before .before .before .before .before .before .before .before .before .before .pre),
-      record {
-        within = omega (arith, c .before .before .expect .ensures, c .before .before .before .before .before .before .before .expression .ensures .within, c .before .before .before .before .before .before .before .before .before .before .before .before .next-word .ensures, c .before .before .before .before .before .before .before .before .before .before .before .before .before .before .before .pre);
-        same = c .before .before .before .before .before .before .before .expression .ensures .same;
-        runs = bracketed-on (A .text .now) (A .at) (A .nest) _ (c .before .before .before .before .before .before .before .before .before .before .before .before .next-word .ensures) D _ (c .before .before .before .before .before .before .before .before .before .before .if1 .left) (c .before .before .before .before .before .before .before .before .before .if2 .left)
-            (closed-open (A .text .now) _ (A .nest) D _ (c .before .before .before .before .before .before .before .expression .ensures .runs) ")" (λ x. x) 63 _ key-round-end _ (c .before .before .expect .ensures) (c .before .before .before .if3 .left) D (c .if4 .taken));
-      },
+      inside-open (A .text .now) (A .pool .now) (A .at) (A .at) (A .nest) (A .count) 1 _ (c .before .before .before .before .before .before .before .before .before .before .before .before .next-word .ensures) m (omega arith) ")" (λ x. x) _
+          (λ D r. bracketed-on (A .text .now) (A .at) (A .nest) _ (c .before .before .before .before .before .before .before .before .before .before .before .before .next-word .ensures) D r (c .before .before .before .before .before .before .before .before .before .before .if1 .left) (c .before .before .before .before .before .before .before .before .before .if2 .left)) _ _ (c .before .before .before .before .before .before .before .expression .ensures) 63 key-round-end _ (c .before .before .expect .ensures) (c .before .before .before .if3 .left) (c .if4 .taken),
     )
 
 bracketed-same-length-3 : (t : ℕ) → bracketed-lts.Need-same-length-3 (bracketed-env t) (bracketed-at t) bracketed.Post
@@ -222,14 +212,11 @@ bracketed-returns-5 : (t : ℕ) → bracketed-lts.Need-returns-5 (bracketed-env 
 bracketed-returns-5 t c =
     let A = c .before .before .before .before .before .before .before .before .before .before .before .before .before .before .before .args in
     let m = bracketed-moves t (c .before .before .before .before .before .before .before .before .before .before) in
-    let D = exprAt (A .text .now) (c .before .before .before .before .before .before .before .expression .last .1 .1 .1 .1 .0) in (
-      omega (arith, c .before .before .expect .ensures, c .before .before .before .before .before .before .before .expression .ensures .within, c .before .before .before .before .before .before .before .before .before .before .before .before .next-word .ensures, c .before .before .before .before .before .before .before .before .before .before .before .before .before .before .before .pre),
-      record {
-        within = omega (arith, c .before .before .expect .ensures, c .before .before .before .before .before .before .before .expression .ensures .within, c .before .before .before .before .before .before .before .before .before .before .before .before .next-word .ensures, c .before .before .before .before .before .before .before .before .before .before .before .before .before .before .before .pre);
-        same = c .before .before .before .before .before .before .before .expression .ensures .same;
-        runs = bracketed-on (A .text .now) (A .at) (A .nest) _ (c .before .before .before .before .before .before .before .before .before .before .before .before .next-word .ensures) D _ (c .before .before .before .before .before .before .before .before .before .before .if1 .left) (c .before .before .before .before .before .before .before .before .before .if2 .left)
-            (closed-good (A .text .now) _ (A .nest) D _ (c .before .before .before .before .before .before .before .expression .ensures .runs) ")" (λ x. x) 63 _ key-round-end _ (c .before .before .expect .ensures) (c .before .before .before .if3 .left) D _ _ _ (c .if4 .left) refl refl);
-      },
+    let x = c .before .before .before .before .before .before .before .expression .ensures in (
+      omega (arith, c .before .before .expect .ensures, x .within, c .before .before .before .before .before .before .before .before .before .before .before .before .next-word .ensures, c .before .before .before .before .before .before .before .before .before .before .before .before .before .before .before .pre),
+      inside-good (A .text .now) (A .pool .now) (A .at) (A .at) (A .nest) (A .count) 1 _ (c .before .before .before .before .before .before .before .before .before .before .before .before .next-word .ensures) m (omega arith) ")" (λ x. x) _
+          (λ D r. bracketed-on (A .text .now) (A .at) (A .nest) _ (c .before .before .before .before .before .before .before .before .before .before .before .before .next-word .ensures) D r (c .before .before .before .before .before .before .before .before .before .before .if1 .left) (c .before .before .before .before .before .before .before .before .before .if2 .left)) _ _ x 63 key-round-end _ (c .before .before .expect .ensures) (c .before .before .before .if3 .left)
+          _ _ _ (c .if4 .left) (x .same) (omega arith) (omega arith) (omega (arith, x .within)) refl,
     )
 
 abbrev expression-env : ℕ → expression-lts.Claims
@@ -268,122 +255,102 @@ expression-returns-2 t c =
       runs = expression-good (A .text .now) (A .at) (A .least) (A .nest) (exprAt (A .text .now) mid) (exprAt (A .text .now) new) _ (c .before .before .before .before .before .before .before .before .operand .ensures .runs) _ (c .before .before .before .before .if1 .left) (c .before .before .joined .ensures .runs);
     }
 
+-- whatever follows in a later turn is what follows at the start; the rest is room
+abbrev joined-Inv-loop : joined-lts.InvT-loop
+joined-Inv-loop text at least nest pool₀ count left end₀ last₀ root₀ pool end last root = (at ≤ end) × (end ≤ length text) × (count ≤ last) × (last + at ≤ count + end) × (root ≤ last) × (length pool ≡ length pool₀) × Carries text pool₀ pool least nest at end count last left root
+
+abbrev joined-μ-loop : joined-lts.MeasureT-loop
+joined-μ-loop text at least nest pool₀ count left end₀ last₀ root₀ pool end last root = length text - end
+
 abbrev joined-env : ℕ → joined-lts.Claims
-joined-env t = (next-word-reads.Asked, next-word-reads.Learnt, operator-reads.Asked, operator-reads.Learnt, level-reads.Asked, level-reads.Learnt, expression-below t, expression.Post, put-reads.Asked, put-reads.Learnt, joined-below t, joined.Post)
+joined-env t = (next-word-reads.Asked, next-word-reads.Learnt, operator-reads.Asked, operator-reads.Learnt, level-reads.Asked, level-reads.Learnt, expression-below t, expression.Post, put-reads.Asked, put-reads.Learnt)
 
--- an operator moves on, and binds at most at 7
-joined-moves : (t : ℕ) (c : joined-lts.Else1 (joined-env t) (joined-at t) joined.Post) → (c .before .before .before .next-word .result .at < c .before .before .before .next-word .result .end) × (c .before .level .result ≤ 7)
+-- the word of a turn that goes on moves on
+joined-moves : (t : ℕ) (c : joined-lts.Else1 (joined-env t) (joined-at t) joined.Post joined-Inv-loop joined-μ-loop) → (c .before .before .before .next-word .result .at < c .before .before .before .next-word .result .end) × (c .before .level .result ≤ 7) × (c .before .before .operator .result < 14)
 joined-moves t c =
-    let e = c .before .level .ensures in
-    let k = operator-class _ (c .before .before .operator .result) (c .before .level .result) (c .before .before .operator .ensures) e (omega arith) in
-    (c .before .before .before .next-word .ensures .moves (k .0) (k .1), omega (arith, level-small (c .before .before .operator .result)))
+    let A = c .before .before .before .before .before .before .before .args in
+    turn-moves (A .text .now) (c .before .before .before .before .loop .pool) (c .before .before .before .before .loop .end) (A .least) (A .nest) (c .before .before .before .before .loop .last) (c .before .before .before .before .loop .root) _ (c .before .before .before .next-word .ensures) (c .before .before .operator .result) _ (c .before .before .operator .ensures) (c .before .level .ensures) (c .if1 .left) (omega (arith, c .before .before .before .before .before .before .before .pre))
 
-joined-class : (t : ℕ) (c : joined-lts.Else1 (joined-env t) (joined-at t) joined.Post) → eqb (c .before .before .before .next-word .result .class) 0 ≡ false
-joined-class t c =
-    operator-class _ (c .before .before .operator .result) (c .before .level .result) (c .before .before .operator .ensures) (c .before .level .ensures) (omega arith) .1
+-- where its right operand ends, and that there is room for a node more
+joined-room : (t : ℕ) (c : joined-lts.After-expression (joined-env t) (joined-at t) joined.Post joined-Inv-loop joined-μ-loop) → (c .before .before .before .before .before .before .loop .end < c .expression .result .at) × (c .expression .result .at ≤ length (c .before .before .before .before .before .before .before .before .before .args .text .now)) × (c .before .before .before .before .before .before .loop .last ≤ c .expression .result .count) × (c .expression .result .root ≤ c .expression .result .count) × (c .expression .result .count + 1 + c .before .before .before .before .before .before .before .before .before .args .at ≤ c .before .before .before .before .before .before .before .before .before .args .count + c .expression .result .at) × (c .before .before .before .before .before .next-word .result .at < length (c .before .before .before .before .before .before .before .before .before .args .text .now)) × (c .before .before .before .before .before .before .before .before .before .args .count ≤ c .before .before .before .before .before .before .before .before .before .args .at) × (length (c .before .before .before .before .before .before .before .before .before .args .text .now) ≤ 8192) × (4 * length (c .before .before .before .before .before .before .before .before .before .args .text .now) + 4 ≤ length (c .expression .last .1 .1 .1 .1 .0))
+joined-room t c = omega (arith, joined-moves t (c .before .before), c .before .before .before .before .before .next-word .ensures .from, c .before .before .before .before .before .next-word .ensures .to, c .expression .ensures .within, c .expression .kept, c .before .before .before .before .before .before .loop .inv, c .before .before .before .before .before .before .before .before .before .pre)
 
-joined-known : (t : ℕ) (c : joined-lts.Else1 (joined-env t) (joined-at t) joined.Post) → c .before .before .operator .result < 14
-joined-known t c = let e = c .before .level .ensures in operator-known (c .before .before .operator .result) (omega arith)
+joined-loop-holds : (t : ℕ) → joined-lts.Need-loop-holds (joined-env t) (joined-at t) joined.Post joined-Inv-loop joined-μ-loop
+joined-loop-holds t c = (search needs, search needs, search needs, search needs, search needs, search needs, λ new r d. d)
 
-joined-next-word-requires : (t : ℕ) → joined-lts.Need-next-word-requires (joined-env t) (joined-at t) joined.Post
+joined-next-word-requires : (t : ℕ) → joined-lts.Need-next-word-requires (joined-env t) (joined-at t) joined.Post joined-Inv-loop joined-μ-loop
 joined-next-word-requires t c κs = search needs
 
-joined-operator-requires : (t : ℕ) → joined-lts.Need-operator-requires (joined-env t) (joined-at t) joined.Post
+joined-operator-requires : (t : ℕ) → joined-lts.Need-operator-requires (joined-env t) (joined-at t) joined.Post joined-Inv-loop joined-μ-loop
 joined-operator-requires t c κs = search needs
 
-joined-level-requires : (t : ℕ) → joined-lts.Need-level-requires (joined-env t) (joined-at t) joined.Post
+joined-level-requires : (t : ℕ) → joined-lts.Need-level-requires (joined-env t) (joined-at t) joined.Post joined-Inv-loop joined-μ-loop
 joined-level-requires t c κs = search needs
 
-joined-returns : (t : ℕ) → joined-lts.Need-returns (joined-env t) (joined-at t) joined.Post
-joined-returns t c =
-    let A = c .before .before .before .before .before .before .args in
-    record {
-      within = search needs;
-      same = λ j h. refl;
-      runs = joined-stop (A .text .now) (A .at) (A .least) (A .nest) _ (c .before .before .before .next-word .ensures) (c .before .before .operator .result) _ (c .before .before .operator .ensures) (c .before .level .ensures) (exprAt (A .text .now) (A .pool .now)) (A .count) (A .left) _ (c .if1 .taken) refl;
-    }
+joined-add-expression : (t : ℕ) → joined-lts.Need-add-expression (joined-env t) (joined-at t) joined.Post joined-Inv-loop joined-μ-loop
+joined-add-expression t c = omega (arith, joined-moves t c)
 
-joined-add-expression : (t : ℕ) → joined-lts.Need-add-expression (joined-env t) (joined-at t) joined.Post
-joined-add-expression t c = let m = joined-moves t c in search needs
+joined-expression-requires : (t : ℕ) → joined-lts.Need-expression-requires (joined-env t) (joined-at t) joined.Post joined-Inv-loop joined-μ-loop
+joined-expression-requires t c κs = omega (arith, joined-moves t (c .before), c .before .before .before .before .next-word .ensures .from, c .before .before .before .before .next-word .ensures .to, c .before .before .before .before .before .loop .inv, c .before .before .before .before .before .before .before .before .pre)
 
-joined-expression-requires : (t : ℕ) → joined-lts.Need-expression-requires (joined-env t) (joined-at t) joined.Post
-joined-expression-requires t c κs = let m = joined-moves t (c .before) in search needs
-
-joined-same-length : (t : ℕ) → joined-lts.Need-same-length (joined-env t) (joined-at t) joined.Post
+joined-same-length : (t : ℕ) → joined-lts.Need-same-length (joined-env t) (joined-at t) joined.Post joined-Inv-loop joined-μ-loop
 joined-same-length t c = search needs
 
-joined-returns-2 : (t : ℕ) → joined-lts.Need-returns-2 (joined-env t) (joined-at t) joined.Post
-joined-returns-2 t c =
-    let A = c .before .before .before .before .before .before .before .before .before .before .before .before .args in
-    let m = joined-moves t (c .before .before .before .before .before .before) in
-    let D = exprAt (A .text .now) (c .before .before .before .before .expression .last .1 .1 .1 .1 .0) in
-    record {
-      within = search needs;
-      same = c .before .before .before .before .expression .ensures .same;
-      runs = joined-bad (A .text .now) (A .at) (A .least) (A .nest) _ (c .before .before .before .before .before .before .before .before .before .next-word .ensures) (c .before .before .before .before .before .before .before .before .operator .result) _ (c .before .before .before .before .before .before .before .before .operator .ensures) (c .before .before .before .before .before .before .before .level .ensures)
-          (exprAt (A .text .now) (A .pool .now) (A .left)) D D _ (c .before .before .before .before .before .before .if1 .left) (omega (arith, c .before .before .before .before .before .before .before .before .before .before .before .before .pre)) (joined-class t (c .before .before .before .before .before .before)) (c .before .before .before .before .expression .ensures .runs) (c .if2 .taken);
-    }
+joined-returns : (t : ℕ) → joined-lts.Need-returns (joined-env t) (joined-at t) joined.Post joined-Inv-loop joined-μ-loop
+joined-returns t c =
+    let A = c .before .before .before .before .before .before .before .before .before .before .before .before .before .args in
+    let L = c .before .before .before .before .before .before .before .before .before .before .loop in
+    L .inv .6 _ _
+    (turn-bad (A .text .now) (L .pool) (L .end) (A .least) (A .nest) (L .last) (L .root) _ (c .before .before .before .before .before .before .before .before .before .next-word .ensures) (c .before .before .before .before .before .before .before .before .operator .result) _ (c .before .before .before .before .before .before .before .before .operator .ensures) (c .before .before .before .before .before .before .before .level .ensures) (c .before .before .before .before .before .before .if1 .left) (omega (arith, c .before .before .before .before .before .before .before .before .before .before .before .before .before .pre)) (L .inv .4) _ _ (c .before .before .before .before .expression .ensures) (c .if2 .taken))
 
-joined-add-put : (t : ℕ) → joined-lts.Need-add-put (joined-env t) (joined-at t) joined.Post
-joined-add-put t c = search needs
+joined-add-n : (t : ℕ) → joined-lts.Need-add-n (joined-env t) (joined-at t) joined.Post joined-Inv-loop joined-μ-loop
+joined-add-n t c = omega (arith, joined-room t (c .before .before .before .before .before))
 
-joined-cast-put : (t : ℕ) → joined-lts.Need-cast-put (joined-env t) (joined-at t) joined.Post
+joined-cast-put : (t : ℕ) → joined-lts.Need-cast-put (joined-env t) (joined-at t) joined.Post joined-Inv-loop joined-μ-loop
 joined-cast-put t c = search needs
 
-joined-add-put-2 : (t : ℕ) → joined-lts.Need-add-put-2 (joined-env t) (joined-at t) joined.Post
-joined-add-put-2 t c = search needs
+joined-add-put : (t : ℕ) → joined-lts.Need-add-put (joined-env t) (joined-at t) joined.Post joined-Inv-loop joined-μ-loop
+joined-add-put t c = search needs
 
-joined-cast-put-2 : (t : ℕ) → joined-lts.Need-cast-put-2 (joined-env t) (joined-at t) joined.Post
-joined-cast-put-2 t c = search needs
+joined-cast-put-2 : (t : ℕ) → joined-lts.Need-cast-put-2 (joined-env t) (joined-at t) joined.Post joined-Inv-loop joined-μ-loop
+joined-cast-put-2 t c = omega (arith, joined-room t (c .before .before .before .before .before .before), c .before .before .before .before .before .before .before .before .before .before .before .before .loop .inv .4)
 
-joined-cast-put-3 : (t : ℕ) → joined-lts.Need-cast-put-3 (joined-env t) (joined-at t) joined.Post
-joined-cast-put-3 t c = search needs
+joined-cast-put-3 : (t : ℕ) → joined-lts.Need-cast-put-3 (joined-env t) (joined-at t) joined.Post joined-Inv-loop joined-μ-loop
+joined-cast-put-3 t c = omega (arith, joined-room t (c .before .before .before .before .before .before .before))
 
-joined-cast-put-4 : (t : ℕ) → joined-lts.Need-cast-put-4 (joined-env t) (joined-at t) joined.Post
-joined-cast-put-4 t c = omega (arith, joined-moves t (c .before .before .before .before .before .before .before .before .before .before), c .before .before .before .before .before .before .before .before .before .before .before .before .before .next-word .ensures, c .before .before .before .before .before .before .before .before .expression .ensures .within, c .before .before .before .before .before .before .before .before .before .before .before .before .before .before .before .before .pre)
+joined-cast-put-4 : (t : ℕ) → joined-lts.Need-cast-put-4 (joined-env t) (joined-at t) joined.Post joined-Inv-loop joined-μ-loop
+joined-cast-put-4 t c = omega (arith, joined-room t (c .before .before .before .before .before .before .before .before))
 
-joined-put-requires : (t : ℕ) → joined-lts.Need-put-requires (joined-env t) (joined-at t) joined.Post
-joined-put-requires t c κs = omega (arith, joined-moves t (c .before .before .before .before .before .before .before .before .before .before), c .before .before .before .before .before .before .before .before .before .before .before .before .before .next-word .ensures, c .before .before .before .before .before .before .before .before .expression .ensures .within, c .before .before .before .before .before .before .before .before .before .before .before .before .before .before .before .before .pre)
+joined-put-requires : (t : ℕ) → joined-lts.Need-put-requires (joined-env t) (joined-at t) joined.Post joined-Inv-loop joined-μ-loop
+joined-put-requires t c κs = omega (arith, joined-room t (c .before .before .before .before .before .before .before .before))
 
-joined-add-joined : (t : ℕ) → joined-lts.Need-add-joined (joined-env t) (joined-at t) joined.Post
-joined-add-joined t c = omega (arith, joined-moves t (c .before .before .before .before .before .before .before .before .before .before .before .before .before .before .before), c .before .before .before .before .before .before .before .before .before .before .before .before .before .before .before .before .before .before .next-word .ensures, c .before .before .before .before .before .before .before .before .before .before .before .before .before .expression .ensures .within, c .before .before .before .before .before .before .before .before .before .before .before .before .before .before .before .before .before .before .before .before .before .pre)
+joined-loop-less : (t : ℕ) → joined-lts.Need-loop-less (joined-env t) (joined-at t) joined.Post joined-Inv-loop joined-μ-loop
+joined-loop-less t c = omega (arith, joined-room t (c .before .before .before .before .before .before .before .before .before .before .before))
 
-joined-add-joined-2 : (t : ℕ) → joined-lts.Need-add-joined-2 (joined-env t) (joined-at t) joined.Post
-joined-add-joined-2 t c = omega (arith, joined-moves t (c .before .before .before .before .before .before .before .before .before .before .before .before .before .before .before .before), c .before .before .before .before .before .before .before .before .before .before .before .before .before .before .before .before .before .before .before .next-word .ensures, c .before .before .before .before .before .before .before .before .before .before .before .before .before .before .expression .ensures .within, c .before .before .before .before .before .before .before .before .before .before .before .before .before .before .before .before .before .before .before .before .before .before .pre)
+joined-loop-again : (t : ℕ) → joined-lts.Need-loop-again (joined-env t) (joined-at t) joined.Post joined-Inv-loop joined-μ-loop
+joined-loop-again t c =
+    let A = c .before .before .before .before .before .before .before .before .before .before .before .before .before .before .before .before .before .before .before .before .args in
+    let L = c .before .before .before .before .before .before .before .before .before .before .before .before .before .before .before .before .before .loop in
+    let m = joined-room t (c .before .before .before .before .before .before .before .before .before .before .before) in (
+      omega (arith, m, L .inv .0),
+      omega (arith, m),
+      omega (arith, m, L .inv .2),
+      omega (arith, m),
+      omega arith,
+      omega (arith, c .before .before .put .kept, c .before .before .before .before .before .before .before .before .before .before .before .expression .kept, L .inv .5),
+      λ new r d. L .inv .6 new r
+          (turn-good (A .text .now) (L .pool) (L .end) (A .least) (A .nest) (L .last) (L .root) _ (c .before .before .before .before .before .before .before .before .before .before .before .before .before .before .before .before .next-word .ensures) (c .before .before .before .before .before .before .before .before .before .before .before .before .before .before .before .operator .result) _ (c .before .before .before .before .before .before .before .before .before .before .before .before .before .before .before .operator .ensures) (c .before .before .before .before .before .before .before .before .before .before .before .before .before .before .level .ensures) (c .before .before .before .before .before .before .before .before .before .before .before .before .before .if1 .left) (omega (arith, c .before .before .before .before .before .before .before .before .before .before .before .before .before .before .before .before .before .before .before .before .pre)) (L .inv .4) _ _ (c .before .before .before .before .before .before .before .before .before .before .before .expression .ensures) _ (c .before .before .before .before .before .before .before .if2 .left) (omega (arith, m)) (c .before .before .put .ensures) new r d),
+    )
 
-joined-joined-requires : (t : ℕ) → joined-lts.Need-joined-requires (joined-env t) (joined-at t) joined.Post
-joined-joined-requires t c κs =
-    let m = joined-moves t (c .before .before .before .before .before .before .before .before .before .before .before .before .before .before .before .before) in
-    let w = c .before .before .before .before .before .before .before .before .before .before .before .before .before .before .before .before .before .before .before .next-word .ensures in
-    let x = c .before .before .before .before .before .before .before .before .before .before .before .before .before .before .expression .ensures .within in
-    let p = c .before .before .before .before .before .before .before .before .before .before .before .before .before .before .before .before .before .before .before .before .before .before .pre in
-    search needs
-
-joined-same-length-2 : (t : ℕ) → joined-lts.Need-same-length-2 (joined-env t) (joined-at t) joined.Post
+joined-same-length-2 : (t : ℕ) → joined-lts.Need-same-length-2 (joined-env t) (joined-at t) joined.Post joined-Inv-loop joined-μ-loop
 joined-same-length-2 t c = search needs
 
-joined-returns-3 : (t : ℕ) → joined-lts.Need-returns-3 (joined-env t) (joined-at t) joined.Post
-joined-returns-3 t c =
-    let A = c .before .before .before .before .before .before .before .before .before .before .before .before .before .before .before .before .before .before .before .before .before .before .before .before .before .args in
-    let m = joined-moves t (c .before .before .before .before .before .before .before .before .before .before .before .before .before .before .before .before .before .before .before) in
-    let w = c .before .before .before .before .before .before .before .before .before .before .before .before .before .before .before .before .before .before .before .before .before .before .next-word .ensures in
-    let x = c .before .before .before .before .before .before .before .before .before .before .before .before .before .before .before .before .before .expression .ensures .within in
-    let y = c .before .before .joined .ensures .within in
-    let p = c .before .before .before .before .before .before .before .before .before .before .before .before .before .before .before .before .before .before .before .before .before .before .before .before .before .pre in
-    let mid = c .before .before .before .before .before .before .before .before .before .before .before .before .before .before .before .before .before .expression .last .1 .1 .1 .1 .0 in
-    let put = c .before .before .before .before .before .before .before .before .put .last .0 in
-    let new = c .before .before .joined .last .1 .1 .1 .1 .0 in
-    let q = c .before .before .before .before .before .before .before .before .before .before .before .before .before .before .before .before .before .expression .result in
-    record {
-      within = omega (arith, m, w, x, y, p);
-      same = both-same (A .count) _ (A .pool .now) mid new (c .before .before .before .before .before .before .before .before .before .before .before .before .before .before .before .before .before .expression .ensures .same) (omega (arith, x))
-          (both-same _ _ mid put new (put-same (q .count) (q .count + 1) _ _ _ _ mid mid put (λ j h. refl) (omega arith) (c .before .before .before .before .before .before .before .before .put .ensures)) (omega arith) (c .before .before .joined .ensures .same));
-      runs = joined-good (A .text .now) (A .at) (A .least) (A .nest) _ w (c .before .before .before .before .before .before .before .before .before .before .before .before .before .before .before .before .before .before .before .before .before .operator .result) _ (c .before .before .before .before .before .before .before .before .before .before .before .before .before .before .before .before .before .before .before .before .before .operator .ensures) (c .before .before .before .before .before .before .before .before .before .before .before .before .before .before .before .before .before .before .before .before .level .ensures)
-          (exprAt (A .text .now) (A .pool .now) (A .left)) (exprAt (A .text .now) mid) (exprAt (A .text .now) new) _ (c .before .before .before .before .before .before .before .before .before .before .before .before .before .before .before .before .before .before .before .if1 .left) (omega (arith, p)) (joined-class t (c .before .before .before .before .before .before .before .before .before .before .before .before .before .before .before .before .before .before .before)) (c .before .before .before .before .before .before .before .before .before .before .before .before .before .before .before .before .before .expression .ensures .runs)
-          _ _ (c .before .before .before .before .before .before .before .before .before .before .before .before .before .if2 .left)
-          (put-joined (A .text .now) mid put (q .count + 1) _ _ _ (omega arith) (omega (arith, m, w, x, p, c .before .before .before .before .before .before .before .before .before .before .before .before .before .before .before .before .pool .given)) (c .before .before .before .before .before .before .before .before .before .before .before .before .before .before .before .before .before .before .before .before .before .operator .result) (A .count) (A .pool .now) (c .before .before .before .before .before .before .before .before .before .before .before .before .before .before .before .before .before .expression .ensures .same) (omega (arith, p)) (omega (arith, x)) (omega (arith, x)) (joined-known t (c .before .before .before .before .before .before .before .before .before .before .before .before .before .before .before .before .before .before .before)) (c .before .before .before .before .before .before .before .before .put .ensures))
-          (c .before .before .joined .ensures .runs);
-    }
+joined-returns-2 : (t : ℕ) → joined-lts.Need-returns-2 (joined-env t) (joined-at t) joined.Post joined-Inv-loop joined-μ-loop
+joined-returns-2 t c =
+    let A = c .before .before .before .before .before .before .before .args in
+    let L = c .before .before .before .before .loop in
+    L .inv .6 _ _
+    (turn-stop (A .text .now) (L .pool) (L .end) (A .least) (A .nest) (L .last) (L .root) _ (c .before .before .before .next-word .ensures) (c .before .before .operator .result) _ (c .before .before .operator .ensures) (c .before .level .ensures) (c .if1 .taken) (L .inv .1) (L .inv .4))
 
 abbrev named-env : ℕ → named-lts.Claims
 named-env t = (next-word-reads.Asked, next-word-reads.Learnt, put-reads.Asked, put-reads.Learnt, leaf-reads.Asked, leaf-reads.Learnt, too-deep-reads.Asked, too-deep-reads.Learnt, expression-below t, expression.Post, expect-reads.Asked, expect-reads.Learnt)
@@ -391,6 +358,10 @@ named-env t = (next-word-reads.Asked, next-word-reads.Learnt, put-reads.Asked, p
 -- the opening bracket moves on
 named-moves : (t : ℕ) (c : named-lts.Else1 (named-env t) (named-at t) named.Post) → c .before .before .next-word .result .at < c .before .before .next-word .result .end
 named-moves t c = class-moves _ _ _ (c .before .before .next-word .ensures) 64 (c .if1 .left) refl refl
+
+-- where the subscript ends, and that there is room for a node more
+named-room : (t : ℕ) (c : named-lts.After-expression (named-env t) (named-at t) named.Post) → (c .expression .result .count + 1 ≤ length (c .before .before .before .before .before .before .before .before .args .text .now)) × (c .expression .result .root ≤ c .expression .result .count) × (c .before .before .before .before .before .before .before .before .args .count ≤ c .expression .result .count) × (c .before .before .before .before .before .next-word .result .at < length (c .before .before .before .before .before .before .before .before .args .text .now)) × (c .before .before .before .before .before .before .before .before .args .place < length (c .before .before .before .before .before .before .before .before .args .text .now)) × (length (c .before .before .before .before .before .before .before .before .args .text .now) ≤ 8192) × (4 * length (c .before .before .before .before .before .before .before .before .args .text .now) + 4 ≤ length (c .expression .last .1 .1 .1 .1 .0))
+named-room t c = omega (arith, named-moves t (c .before .before .before), c .before .before .before .before .before .next-word .ensures .from, c .before .before .before .before .before .next-word .ensures .to, c .expression .ensures .within, c .expression .kept, c .before .before .before .before .before .before .before .before .pre)
 
 named-next-word-requires : (t : ℕ) → named-lts.Need-next-word-requires (named-env t) (named-at t) named.Post
 named-next-word-requires t c κs = search needs
@@ -419,12 +390,9 @@ named-returns t c =
     let s = nameAt (A .text .now) (A .place) in
     let new = c .before .before .before .put .last .0 in
     rw (c .leaf .ensures)
-    (record {
-      within = search needs;
-      same = put-same (A .count) (A .count + 1) _ _ _ _ (A .pool .now) (A .pool .now) new (λ j h. refl) (omega arith) (c .before .before .before .put .ensures);
-      runs = named-plain (A .text .now) (A .end) (A .nest) _ (c .before .before .before .before .before .before .before .next-word .ensures) (record { word = W.name s; place = A .place }) s (exprAt (A .text .now) new) _ (A .count + 1) (c .before .before .before .before .before .if1 .taken) refl
-          (put-name (A .text .now) (A .pool .now) new (A .count + 1) _ _ _ (omega arith) (omega arith) (c .before .before .before .put .ensures));
-    })
+    (leaf-did (A .text .now) (A .pool .now) new (A .place) (A .end) (A .count) 0 0 _ _ _ _ _ _ (search needs) (search needs) (c .before .before .before .put .ensures)
+    (named-plain (A .text .now) (A .end) (A .nest) _ (c .before .before .before .before .before .before .before .next-word .ensures) (record { word = W.name s; place = A .place }) s (exprAt (A .text .now) new) _ (A .count + 1) (c .before .before .before .before .before .if1 .taken) refl
+    (put-name (A .text .now) (A .pool .now) new (A .count + 1) _ _ _ (omega arith) (omega arith) (c .before .before .before .put .ensures))))
 
 named-too-deep-requires : (t : ℕ) → named-lts.Need-too-deep-requires (named-env t) (named-at t) named.Post
 named-too-deep-requires t c κs = search needs
@@ -452,15 +420,9 @@ named-same-length-2 t c = search needs
 named-returns-3 : (t : ℕ) → named-lts.Need-returns-3 (named-env t) (named-at t) named.Post
 named-returns-3 t c =
     let A = c .before .before .before .before .before .before .before .before .before .before .before .before .args in
-    let m = named-moves t (c .before .before .before .before .before .before .before) in
     let s = nameAt (A .text .now) (A .place) in
-    let D = exprAt (A .text .now) (c .before .before .before .before .expression .last .1 .1 .1 .1 .0) in
-    record {
-      within = search needs;
-      same = c .before .before .before .before .expression .ensures .same;
-      runs = named-on (A .text .now) (A .end) (A .nest) _ (c .before .before .before .before .before .before .before .before .before .next-word .ensures) (record { word = W.name s; place = A .place }) s D _ (c .before .before .before .before .before .before .before .if1 .left) (c .before .before .before .before .before .before .if2 .left)
-          (closed-bad (A .text .now) _ (A .nest) D _ (c .before .before .before .before .expression .ensures .runs) "]" (S.element (A .place) s _) D (c .if3 .taken));
-    }
+    inside-bad (A .text .now) (A .pool .now) (A .place) (A .end) (A .nest) (A .count) 0 _ (c .before .before .before .before .before .before .before .before .before .next-word .ensures) (named-moves t (c .before .before .before .before .before .before .before)) (omega (arith, c .before .before .before .before .before .before .before .before .before .before .before .before .pre)) "]" (S.element (A .place) s _) _
+    (λ D r. named-on (A .text .now) (A .end) (A .nest) _ (c .before .before .before .before .before .before .before .before .before .next-word .ensures) (record { word = W.name s; place = A .place }) s D r (c .before .before .before .before .before .before .before .if1 .left) (c .before .before .before .before .before .before .if2 .left)) _ _ (c .before .before .before .before .expression .ensures) (c .if3 .taken)
 
 named-expect-requires : (t : ℕ) → named-lts.Need-expect-requires (named-env t) (named-at t) named.Post
 named-expect-requires t c κs = search needs
@@ -471,33 +433,28 @@ named-same-length-3 t c = search needs
 named-returns-4 : (t : ℕ) → named-lts.Need-returns-4 (named-env t) (named-at t) named.Post
 named-returns-4 t c =
     let A = c .before .before .before .before .before .before .before .before .before .before .before .before .before .before .before .args in
-    let m = named-moves t (c .before .before .before .before .before .before .before .before .before .before) in
     let s = nameAt (A .text .now) (A .place) in
-    let D = exprAt (A .text .now) (c .before .before .before .before .before .before .before .expression .last .1 .1 .1 .1 .0) in
-    record {
-      within = omega (arith, m, c .before .before .expect .ensures, c .before .before .before .before .before .before .before .expression .ensures .within, c .before .before .before .before .before .before .before .before .before .before .before .before .next-word .ensures, c .before .before .before .before .before .before .before .before .before .before .before .before .before .before .before .pre);
-      same = c .before .before .before .before .before .before .before .expression .ensures .same;
-      runs = named-on (A .text .now) (A .end) (A .nest) _ (c .before .before .before .before .before .before .before .before .before .before .before .before .next-word .ensures) (record { word = W.name s; place = A .place }) s D _ (c .before .before .before .before .before .before .before .before .before .before .if1 .left) (c .before .before .before .before .before .before .before .before .before .if2 .left)
-          (closed-open (A .text .now) _ (A .nest) D _ (c .before .before .before .before .before .before .before .expression .ensures .runs) "]" (S.element (A .place) s _) 65 _ key-square-end _ (c .before .before .expect .ensures) (c .before .before .before .if3 .left) D (c .if4 .taken));
-    }
+    inside-open (A .text .now) (A .pool .now) (A .place) (A .end) (A .nest) (A .count) 0 _ (c .before .before .before .before .before .before .before .before .before .before .before .before .next-word .ensures) (named-moves t (c .before .before .before .before .before .before .before .before .before .before)) (omega (arith, c .before .before .before .before .before .before .before .before .before .before .before .before .before .before .before .pre)) "]" (S.element (A .place) s _) _
+    (λ D r. named-on (A .text .now) (A .end) (A .nest) _ (c .before .before .before .before .before .before .before .before .before .before .before .before .next-word .ensures) (record { word = W.name s; place = A .place }) s D r (c .before .before .before .before .before .before .before .before .before .before .if1 .left) (c .before .before .before .before .before .before .before .before .before .if2 .left)) _ _ (c .before .before .before .before .before .before .before .expression .ensures)
+    65 key-square-end _ (c .before .before .expect .ensures) (c .before .before .before .if3 .left) (c .if4 .taken)
 
 named-add-put-2 : (t : ℕ) → named-lts.Need-add-put-2 (named-env t) (named-at t) named.Post
-named-add-put-2 t c = omega (arith, named-moves t (c .before .before .before .before .before .before .before .before .before .before .before .before), c .before .before .before .before .before .before .before .before .before .before .before .before .before .before .next-word .ensures, c .before .before .before .before .before .before .before .before .before .expression .ensures .within, c .before .before .before .before .expect .ensures .within, c .before .before .before .before .before .before .before .before .before .before .before .before .before .before .before .before .before .pre)
+named-add-put-2 t c = omega (arith, named-room t (c .before .before .before .before .before .before .before .before .before))
 
 named-cast-put-2 : (t : ℕ) → named-lts.Need-cast-put-2 (named-env t) (named-at t) named.Post
-named-cast-put-2 t c = omega (arith, named-moves t (c .before .before .before .before .before .before .before .before .before .before .before .before .before), c .before .before .before .before .before .before .before .before .before .before .before .before .before .before .before .next-word .ensures, c .before .before .before .before .before .before .before .before .before .before .expression .ensures .within, c .before .before .before .before .before .expect .ensures .within, c .before .before .before .before .before .before .before .before .before .before .before .before .before .before .before .before .before .before .pre)
+named-cast-put-2 t c = omega (arith, named-room t (c .before .before .before .before .before .before .before .before .before .before))
 
 named-cast-put-3 : (t : ℕ) → named-lts.Need-cast-put-3 (named-env t) (named-at t) named.Post
-named-cast-put-3 t c = omega (arith, named-moves t (c .before .before .before .before .before .before .before .before .before .before .before .before .before .before), c .before .before .before .before .before .before .before .before .before .before .before .before .before .before .before .before .next-word .ensures, c .before .before .before .before .before .before .before .before .before .before .before .expression .ensures .within, c .before .before .before .before .before .before .expect .ensures .within, c .before .before .before .before .before .before .before .before .before .before .before .before .before .before .before .before .before .before .before .pre)
+named-cast-put-3 t c = omega (arith, named-room t (c .before .before .before .before .before .before .before .before .before .before .before))
 
 named-cast-put-4 : (t : ℕ) → named-lts.Need-cast-put-4 (named-env t) (named-at t) named.Post
-named-cast-put-4 t c = omega (arith, named-moves t (c .before .before .before .before .before .before .before .before .before .before .before .before .before .before), c .before .before .before .before .before .before .before .before .before .before .before .before .before .before .before .before .next-word .ensures, c .before .before .before .before .before .before .before .before .before .before .before .expression .ensures .within, c .before .before .before .before .before .before .expect .ensures .within, c .before .before .before .before .before .before .before .before .before .before .before .before .before .before .before .before .before .before .before .pre)
+named-cast-put-4 t c = omega (arith, named-room t (c .before .before .before .before .before .before .before .before .before .before .before))
 
 named-put-requires-2 : (t : ℕ) → named-lts.Need-put-requires-2 (named-env t) (named-at t) named.Post
-named-put-requires-2 t c κs = omega (arith, named-moves t (c .before .before .before .before .before .before .before .before .before .before .before .before .before .before), c .before .before .before .before .before .before .before .before .before .before .before .before .before .before .before .before .next-word .ensures, c .before .before .before .before .before .before .before .before .before .before .before .expression .ensures .within, c .before .before .before .before .before .before .expect .ensures .within, c .before .before .before .before .before .before .before .before .before .before .before .before .before .before .before .before .before .before .before .pre)
+named-put-requires-2 t c κs = omega (arith, named-room t (c .before .before .before .before .before .before .before .before .before .before .before))
 
 named-add-leaf-2 : (t : ℕ) → named-lts.Need-add-leaf-2 (named-env t) (named-at t) named.Post
-named-add-leaf-2 t c = omega (arith, named-moves t (c .before .before .before .before .before .before .before .before .before .before .before .before .before .before .before .before .before .before), c .before .before .before .before .before .before .before .before .before .before .before .before .before .before .before .before .before .before .before .before .next-word .ensures, c .before .before .before .before .before .before .before .before .before .before .before .before .before .before .before .expression .ensures .within, c .before .before .before .before .before .before .before .before .before .before .expect .ensures .within, c .before .before .before .before .before .before .before .before .before .before .before .before .before .before .before .before .before .before .before .before .before .before .before .pre)
+named-add-leaf-2 t c = omega (arith, named-room t (c .before .before .before .before .before .before .before .before .before .before .before .before .before .before .before))
 
 named-leaf-requires-2 : (t : ℕ) → named-lts.Need-leaf-requires-2 (named-env t) (named-at t) named.Post
 named-leaf-requires-2 t c κs = search needs
@@ -508,23 +465,17 @@ named-same-length-4 t c = search needs
 named-returns-5 : (t : ℕ) → named-lts.Need-returns-5 (named-env t) (named-at t) named.Post
 named-returns-5 t c =
     let A = c .before .before .before .before .before .before .before .before .before .before .before .before .before .before .before .before .before .before .before .before .before .before .before .before .args in
-    let m = named-moves t (c .before .before .before .before .before .before .before .before .before .before .before .before .before .before .before .before .before .before .before) in
-    let w = c .before .before .before .before .before .before .before .before .before .before .before .before .before .before .before .before .before .before .before .before .before .next-word .ensures in
-    let x = c .before .before .before .before .before .before .before .before .before .before .before .before .before .before .before .before .expression .ensures .within in
-    let y = c .before .before .before .before .before .before .before .before .before .before .before .expect .ensures in
-    let p = c .before .before .before .before .before .before .before .before .before .before .before .before .before .before .before .before .before .before .before .before .before .before .before .before .pre in
+    let m = named-room t (c .before .before .before .before .before .before .before .before .before .before .before .before .before .before .before .before) in
+    let x = c .before .before .before .before .before .before .before .before .before .before .before .before .before .before .before .before .expression .ensures in
     let s = nameAt (A .text .now) (A .place) in
     let mid = c .before .before .before .before .before .before .before .before .before .before .before .before .before .before .before .before .expression .last .1 .1 .1 .1 .0 in
     let new = c .before .before .before .before .put2 .last .0 in
-    let q = c .before .before .before .before .before .before .before .before .before .before .before .before .before .before .before .before .expression .result in
+    let n = c .before .before .before .before .before .before .before .before .before .before .before .before .before .before .before .before .expression .result .count + 1 in
     rw (c .leaf2 .ensures)
-    (record {
-      within = omega (arith, m, w, x, y, p);
-      same = put-same (A .count) (q .count + 1) _ _ _ _ (A .pool .now) mid new (c .before .before .before .before .before .before .before .before .before .before .before .before .before .before .before .before .expression .ensures .same) (omega (arith, x)) (c .before .before .before .before .put2 .ensures);
-      runs = named-on (A .text .now) (A .end) (A .nest) _ w (record { word = W.name s; place = A .place }) s (exprAt (A .text .now) new) _ (c .before .before .before .before .before .before .before .before .before .before .before .before .before .before .before .before .before .before .before .if1 .left) (c .before .before .before .before .before .before .before .before .before .before .before .before .before .before .before .before .before .before .if2 .left)
-          (closed-good (A .text .now) _ (A .nest) (exprAt (A .text .now) mid) _ (c .before .before .before .before .before .before .before .before .before .before .before .before .before .before .before .before .expression .ensures .runs) "]" (S.element (A .place) s _) 65 _ key-square-end _ y (c .before .before .before .before .before .before .before .before .before .before .before .before .if3 .left) (exprAt (A .text .now) new) (q .count + 1) (q .count + 1) _ (c .before .before .before .before .before .before .before .before .before .if4 .left) refl
-          (put-indexed (A .text .now) mid new (q .count + 1) _ _ _ (omega arith) (omega (arith, m, w, x, y, p, c .before .before .before .before .before .before .before .before .before .before .before .before .before .before .before .pool2 .given)) (omega (arith, x)) (c .before .before .before .before .put2 .ensures)));
-    })
+    (inside-good (A .text .now) (A .pool .now) (A .place) (A .end) (A .nest) (A .count) 0 _ (c .before .before .before .before .before .before .before .before .before .before .before .before .before .before .before .before .before .before .before .before .before .next-word .ensures) (named-moves t (c .before .before .before .before .before .before .before .before .before .before .before .before .before .before .before .before .before .before .before)) (omega (arith, c .before .before .before .before .before .before .before .before .before .before .before .before .before .before .before .before .before .before .before .before .before .before .before .before .pre)) "]" (S.element (A .place) s _) _
+    (λ D r. named-on (A .text .now) (A .end) (A .nest) _ (c .before .before .before .before .before .before .before .before .before .before .before .before .before .before .before .before .before .before .before .before .before .next-word .ensures) (record { word = W.name s; place = A .place }) s D r (c .before .before .before .before .before .before .before .before .before .before .before .before .before .before .before .before .before .before .before .if1 .left) (c .before .before .before .before .before .before .before .before .before .before .before .before .before .before .before .before .before .before .if2 .left)) _ _ x
+    65 key-square-end _ (c .before .before .before .before .before .before .before .before .before .before .before .expect .ensures) (c .before .before .before .before .before .before .before .before .before .before .before .before .if3 .left) new n n (c .before .before .before .before .before .before .before .before .before .if4 .left) (put-same (A .count) n _ _ _ _ (A .pool .now) mid new (x .same) (omega (arith, m)) (c .before .before .before .before .put2 .ensures)) (omega arith) (omega arith) (omega arith)
+    (put-indexed (A .text .now) mid new n _ _ _ (omega arith) (omega (arith, m)) (omega (arith, m)) (c .before .before .before .before .put2 .ensures)))
 
 abbrev operand-env : ℕ → operand-lts.Claims
 operand-env t = (next-word-reads.Asked, next-word-reads.Learnt, low-reads.Asked, low-reads.Learnt, high-reads.Asked, high-reads.Learnt, put-reads.Asked, put-reads.Learnt, leaf-reads.Asked, leaf-reads.Learnt, signed-below t, signed.Post, primary-below t, primary.Post)
@@ -567,12 +518,9 @@ operand-returns t c =
     let v = c .before .before .before .before .before .before .before .before .before .before .next-word2 .ensures in
     let new = c .before .before .before .put .last .0 in
     rw (c .leaf .ensures)
-    (record {
-      within = omega (arith, m, w, v, c .before .before .before .before .before .before .before .before .before .before .before .before .before .before .before .before .pre);
-      same = put-same (A .count) (A .count + 1) _ _ _ _ (A .pool .now) (A .pool .now) new (λ j h. refl) (omega arith) (c .before .before .before .put .ensures);
-      runs = operand-negative (A .text .now) (A .at) (A .nest) _ w (exprAt (A .text .now) new) _ (c .before .before .before .before .before .before .before .before .before .before .before .if1 .taken) _ v (A .count + 1) (c .before .before .before .before .before .before .before .before .if2 .taken) refl
-          (put-below (A .text .now) (A .pool .now) new (A .count + 1) _ _ _ (omega arith) (omega (arith, m, w, v, c .before .before .before .before .before .before .before .before .before .before .before .before .before .before .before .before .pre)) _ (c .before .before .before .before .before .before .low .ensures) (c .before .before .before .before .before .high .ensures) (c .before .before .before .put .ensures));
-    })
+    (leaf-did (A .text .now) (A .pool .now) new (A .at) (A .at) (A .count) 1 3 _ _ _ _ _ _ (omega (arith, m, w, v)) (v .to) (c .before .before .before .put .ensures)
+    (operand-negative (A .text .now) (A .at) (A .nest) _ w (exprAt (A .text .now) new) _ (c .before .before .before .before .before .before .before .before .before .before .before .if1 .taken) _ v (A .count + 1) (c .before .before .before .before .before .before .before .before .if2 .taken) refl
+    (put-below (A .text .now) (A .pool .now) new (A .count + 1) _ _ _ (omega arith) (omega (arith, m, w, v, c .before .before .before .before .before .before .before .before .before .before .before .before .before .before .before .before .pre)) _ (c .before .before .before .before .before .before .low .ensures) (c .before .before .before .before .before .high .ensures) (c .before .before .before .put .ensures))))
 
 operand-signed-requires : (t : ℕ) → operand-lts.Need-signed-requires (operand-env t) (operand-at t) operand.Post
 operand-signed-requires t c κs = let m = class-moves _ _ _ (c .before .before .before .before .before .before .next-word .ensures) 69 (c .before .before .before .before .if1 .taken) refl refl in search needs
@@ -668,15 +616,13 @@ primary-same-length-2 t c = search needs
 primary-returns-2 : (t : ℕ) → primary-lts.Need-returns-2 (primary-env t) (primary-at t) primary.Post
 primary-returns-2 t c =
     let A = c .before .before .before .before .before .before .before .before .before .before .before .before .before .before .before .args in
-    let m = class-moves _ _ _ (c .before .before .before .before .before .before .before .before .before .before .before .before .next-word .ensures) 2 (c .before .before .before .before .before .before .before .before .if2 .taken) refl refl in
+    let w = c .before .before .before .before .before .before .before .before .before .before .before .before .next-word .ensures in
+    let m = class-moves _ _ _ w 2 (c .before .before .before .before .before .before .before .before .if2 .taken) refl refl in
     let new = c .before .before .before .put .last .0 in
     rw (c .leaf .ensures)
-    (record {
-      within = search needs;
-      same = put-same (A .count) (A .count + 1) _ _ _ _ (A .pool .now) (A .pool .now) new (λ j h. refl) (omega arith) (c .before .before .before .put .ensures);
-      runs = primary-number (A .text .now) (A .at) (A .nest) _ (c .before .before .before .before .before .before .before .before .before .before .before .before .next-word .ensures) (exprAt (A .text .now) new) _ (A .count + 1) (c .before .before .before .before .before .before .before .before .if2 .taken) refl
-          (put-plain (A .text .now) (A .pool .now) new (A .count + 1) _ _ _ (omega arith) (omega arith) _ (c .before .before .before .before .before .before .low .ensures) (c .before .before .before .before .before .high .ensures) (c .before .before .before .put .ensures));
-    })
+    (leaf-did (A .text .now) (A .pool .now) new (A .at) (A .at) (A .count) 1 1 _ _ _ _ _ _ (omega (arith, m, w .from)) (w .to) (c .before .before .before .put .ensures)
+    (primary-number (A .text .now) (A .at) (A .nest) _ w (exprAt (A .text .now) new) _ (A .count + 1) (c .before .before .before .before .before .before .before .before .if2 .taken) refl
+    (put-plain (A .text .now) (A .pool .now) new (A .count + 1) _ _ _ (omega arith) (omega (arith, m, w .from, w .to, c .before .before .before .before .before .before .before .before .before .before .before .before .before .before .before .pre)) _ (c .before .before .before .before .before .before .low .ensures) (c .before .before .before .before .before .high .ensures) (c .before .before .before .put .ensures))))
 
 primary-add-put-2 : (t : ℕ) → primary-lts.Need-add-put-2 (primary-env t) (primary-at t) primary.Post
 primary-add-put-2 t c = search needs
@@ -699,15 +645,13 @@ primary-same-length-3 t c = search needs
 primary-returns-3 : (t : ℕ) → primary-lts.Need-returns-3 (primary-env t) (primary-at t) primary.Post
 primary-returns-3 t c =
     let A = c .before .before .before .before .before .before .before .before .before .before .before .before .before .before .before .args in
-    let m = class-moves _ _ _ (c .before .before .before .before .before .before .before .before .before .before .before .before .next-word .ensures) 33 (c .before .before .before .before .before .before .if3 .taken) refl refl in
+    let w = c .before .before .before .before .before .before .before .before .before .before .before .before .next-word .ensures in
+    let m = class-moves _ _ _ w 33 (c .before .before .before .before .before .before .if3 .taken) refl refl in
     let new = c .before .before .before .put2 .last .0 in
     rw (c .leaf2 .ensures)
-    (record {
-      within = search needs;
-      same = put-same (A .count) (A .count + 1) _ _ _ _ (A .pool .now) (A .pool .now) new (λ j h. refl) (omega arith) (c .before .before .before .put2 .ensures);
-      runs = primary-truth (A .text .now) (A .at) (A .nest) _ (c .before .before .before .before .before .before .before .before .before .before .before .before .next-word .ensures) (exprAt (A .text .now) new) _ true (A .count + 1) (c .before .before .before .before .before .before .if3 .taken) refl
-          (put-flag (A .text .now) (A .pool .now) new (A .count + 1) _ _ _ (omega arith) (omega arith) true (c .before .before .before .put2 .ensures));
-    })
+    (leaf-did (A .text .now) (A .pool .now) new (A .at) (A .at) (A .count) 1 1 _ _ _ _ _ _ (omega (arith, m, w .from)) (w .to) (c .before .before .before .put2 .ensures)
+    (primary-truth (A .text .now) (A .at) (A .nest) _ w (exprAt (A .text .now) new) _ true (A .count + 1) (c .before .before .before .before .before .before .if3 .taken) refl
+    (put-flag (A .text .now) (A .pool .now) new (A .count + 1) _ _ _ (omega arith) (omega (arith, m, w .from, w .to, c .before .before .before .before .before .before .before .before .before .before .before .before .before .before .before .pre)) true (c .before .before .before .put2 .ensures))))
 
 primary-add-put-3 : (t : ℕ) → primary-lts.Need-add-put-3 (primary-env t) (primary-at t) primary.Post
 primary-add-put-3 t c = search needs
@@ -730,15 +674,13 @@ primary-same-length-4 t c = search needs
 primary-returns-4 : (t : ℕ) → primary-lts.Need-returns-4 (primary-env t) (primary-at t) primary.Post
 primary-returns-4 t c =
     let A = c .before .before .before .before .before .before .before .before .before .before .before .before .before .before .before .before .before .args in
-    let m = class-moves _ _ _ (c .before .before .before .before .before .before .before .before .before .before .before .before .before .before .next-word .ensures) 34 (c .before .before .before .before .before .before .if4 .taken) refl refl in
+    let w = c .before .before .before .before .before .before .before .before .before .before .before .before .before .before .next-word .ensures in
+    let m = class-moves _ _ _ w 34 (c .before .before .before .before .before .before .if4 .taken) refl refl in
     let new = c .before .before .before .put3 .last .0 in
     rw (c .leaf3 .ensures)
-    (record {
-      within = search needs;
-      same = put-same (A .count) (A .count + 1) _ _ _ _ (A .pool .now) (A .pool .now) new (λ j h. refl) (omega arith) (c .before .before .before .put3 .ensures);
-      runs = primary-truth (A .text .now) (A .at) (A .nest) _ (c .before .before .before .before .before .before .before .before .before .before .before .before .before .before .next-word .ensures) (exprAt (A .text .now) new) _ false (A .count + 1) (c .before .before .before .before .before .before .if4 .taken) refl
-          (put-flag (A .text .now) (A .pool .now) new (A .count + 1) _ _ _ (omega arith) (omega (arith, m, c .before .before .before .before .before .before .before .before .before .before .before .before .before .before .next-word .ensures, c .before .before .before .before .before .before .before .before .before .before .before .before .before .before .before .before .before .pre)) false (c .before .before .before .put3 .ensures));
-    })
+    (leaf-did (A .text .now) (A .pool .now) new (A .at) (A .at) (A .count) 1 1 _ _ _ _ _ _ (omega (arith, m, w .from)) (w .to) (c .before .before .before .put3 .ensures)
+    (primary-truth (A .text .now) (A .at) (A .nest) _ w (exprAt (A .text .now) new) _ false (A .count + 1) (c .before .before .before .before .before .before .if4 .taken) refl
+    (put-flag (A .text .now) (A .pool .now) new (A .count + 1) _ _ _ (omega arith) (omega (arith, m, w .from, w .to, c .before .before .before .before .before .before .before .before .before .before .before .before .before .before .before .before .before .pre)) false (c .before .before .before .put3 .ensures))))
 
 primary-conversion-requires : (t : ℕ) → primary-lts.Need-conversion-requires (primary-env t) (primary-at t) primary.Post
 primary-conversion-requires t c κs = search needs
@@ -790,12 +732,7 @@ signed-same-length t c = search needs
 signed-returns : (t : ℕ) → signed-lts.Need-returns (signed-env t) (signed-at t) signed.Post
 signed-returns t c =
     let A = c .before .before .before .before .before .before .before .before .args in
-    let D = exprAt (A .text .now) (c .before .before .before .before .primary .last .1 .1 .1 .0) in
-    record {
-      within = search needs;
-      same = c .before .before .before .before .primary .ensures .same;
-      runs = under-bad (A .text .now) (A .at) 1 1 (λ f ts. R.primary f (A .nest) ts) D _ (c .before .before .before .before .primary .ensures .runs) (unary (A .kind) (A .place)) D (c .if1 .taken);
-    }
+    over-bad (A .text .now) (A .pool .now) _ (A .place) (A .at) (A .count) 1 1 (λ f ts. R.primary f (A .nest) ts) (unary (A .kind) (A .place)) (omega (arith, c .before .before .before .before .before .before .before .before .pre)) _ (c .before .before .before .before .primary .ensures) (c .if1 .taken)
 
 signed-add-put : (t : ℕ) → signed-lts.Need-add-put (signed-env t) (signed-at t) signed.Post
 signed-add-put t c = search needs
@@ -825,14 +762,10 @@ signed-returns-2 t c =
     let p = c .before .before .before .before .before .before .before .before .before .before .before .before .before .before .before .before .pre in
     let mid = c .before .before .before .before .before .before .before .before .before .before .before .before .primary .last .1 .1 .1 .0 in
     let new = c .before .before .before .before .put .last .0 in
-    let q = c .before .before .before .before .before .before .before .before .before .before .before .before .primary .result in
+    let n = c .before .before .before .before .before .before .before .before .before .before .before .before .primary .result .count + 1 in
     rw (c .leaf .ensures)
-    (record {
-      within = omega (arith, c .before .before .before .before .before .before .before .before .before .before .before .before .primary .ensures .within, x, p);
-      same = put-same (A .count) (q .count + 1) _ _ _ _ (A .pool .now) mid new (c .before .before .before .before .before .before .before .before .before .before .before .before .primary .ensures .same) (omega (arith, c .before .before .before .before .before .before .before .before .before .before .before .before .primary .ensures .within)) (c .before .before .before .before .put .ensures);
-      runs = under-good (A .text .now) (A .at) 1 1 (λ f ts. R.primary f (A .nest) ts) (exprAt (A .text .now) mid) _ (c .before .before .before .before .before .before .before .before .before .before .before .before .primary .ensures .runs) (unary (A .kind) (A .place)) (exprAt (A .text .now) new) (q .count + 1) _ (c .before .before .before .before .before .before .before .before .if1 .left) refl
-          (put-unary (A .text .now) mid new (q .count + 1) _ _ _ (omega arith) (omega (arith, c .before .before .before .before .before .before .before .before .before .before .before .before .primary .ensures .within, x, p, c .before .before .before .before .before .before .before .before .before .before .before .pool .given)) (A .kind) (omega (arith, p)) (omega (arith, p)) (omega (arith, c .before .before .before .before .before .before .before .before .before .before .before .before .primary .ensures .within)) (c .before .before .before .before .put .ensures));
-    })
+    (over-good (A .text .now) (A .pool .now) mid (A .place) (A .at) (A .count) 1 1 (λ f ts. R.primary f (A .nest) ts) (unary (A .kind) (A .place)) (omega (arith, p)) _ x new _ _ _ (c .before .before .before .before .before .before .before .before .if1 .left) (omega (arith, x .within, p)) (c .before .before .before .before .put .ensures)
+    (put-unary (A .text .now) mid new n _ _ _ (omega arith) (omega (arith, x .within, p, c .before .before .before .before .before .before .before .before .before .before .before .pool .given)) (A .kind) (omega (arith, p)) (omega (arith, p)) (omega (arith, x .within)) (c .before .before .before .before .put .ensures)))
 
 abbrev wrapped-env : ℕ → wrapped-lts.Claims
 wrapped-env t = (bracketed-below t, bracketed.Post, put-reads.Asked, put-reads.Learnt, leaf-reads.Asked, leaf-reads.Learnt)
@@ -846,12 +779,7 @@ wrapped-same-length t c = search needs
 wrapped-returns : (t : ℕ) → wrapped-lts.Need-returns (wrapped-env t) (wrapped-at t) wrapped.Post
 wrapped-returns t c =
     let A = c .before .before .before .before .before .before .before .before .args in
-    let D = exprAt (A .text .now) (c .before .before .before .before .bracketed .last .1 .1 .1 .0) in
-    record {
-      within = search needs;
-      same = c .before .before .before .before .bracketed .ensures .1 .same;
-      runs = under-bad (A .text .now) (A .at) 1 0 (λ f ts. R.bracketed f (A .nest) ts) D _ (c .before .before .before .before .bracketed .ensures .1 .runs) (wrapped (A .kind) (A .b) (A .place)) D (c .if1 .taken);
-    }
+    over-bad (A .text .now) (A .pool .now) _ (A .at) (A .at) (A .count) 1 0 (λ f ts. R.bracketed f (A .nest) ts) (wrapped (A .kind) (A .b) (A .place)) (omega arith) _ (c .before .before .before .before .bracketed .ensures .1) (c .if1 .taken)
 
 wrapped-add-put : (t : ℕ) → wrapped-lts.Need-add-put (wrapped-env t) (wrapped-at t) wrapped.Post
 wrapped-add-put t c = search needs
@@ -881,14 +809,10 @@ wrapped-returns-2 t c =
     let p = c .before .before .before .before .before .before .before .before .before .before .before .before .before .before .before .before .pre in
     let mid = c .before .before .before .before .before .before .before .before .before .before .before .before .bracketed .last .1 .1 .1 .0 in
     let new = c .before .before .before .before .put .last .0 in
-    let q = c .before .before .before .before .before .before .before .before .before .before .before .before .bracketed .result in
+    let n = c .before .before .before .before .before .before .before .before .before .before .before .before .bracketed .result .count + 1 in
     rw (c .leaf .ensures)
-    (record {
-      within = omega (arith, c .before .before .before .before .before .before .before .before .before .before .before .before .bracketed .ensures .1 .within, x, p);
-      same = put-same (A .count) (q .count + 1) _ _ _ _ (A .pool .now) mid new (c .before .before .before .before .before .before .before .before .before .before .before .before .bracketed .ensures .1 .same) (omega (arith, c .before .before .before .before .before .before .before .before .before .before .before .before .bracketed .ensures .1 .within)) (c .before .before .before .before .put .ensures);
-      runs = under-good (A .text .now) (A .at) 1 0 (λ f ts. R.bracketed f (A .nest) ts) (exprAt (A .text .now) mid) _ (c .before .before .before .before .before .before .before .before .before .before .before .before .bracketed .ensures .1 .runs) (wrapped (A .kind) (A .b) (A .place)) (exprAt (A .text .now) new) (q .count + 1) _ (c .before .before .before .before .before .before .before .before .if1 .left) refl
-          (put-wrapped (A .text .now) mid new (q .count + 1) _ _ _ (omega arith) (omega (arith, c .before .before .before .before .before .before .before .before .before .before .before .before .bracketed .ensures .1 .within, x, p, c .before .before .before .before .before .before .before .before .before .before .before .pool .given)) (A .kind) (omega (arith, p)) (omega (arith, p)) (omega (arith, c .before .before .before .before .before .before .before .before .before .before .before .before .bracketed .ensures .1 .within)) (c .before .before .before .before .put .ensures));
-    })
+    (over-good (A .text .now) (A .pool .now) mid (A .at) (A .at) (A .count) 1 0 (λ f ts. R.bracketed f (A .nest) ts) (wrapped (A .kind) (A .b) (A .place)) (omega arith) _ (x .1) new _ _ _ (c .before .before .before .before .before .before .before .before .if1 .left) (omega (arith, x .0, c .before .before .before .before .before .before .before .before .if1 .left)) (c .before .before .before .before .put .ensures)
+    (put-wrapped (A .text .now) mid new n _ _ _ (omega arith) (omega (arith, x .0, x .1 .within, c .before .before .before .before .before .before .before .before .if1 .left, p, c .before .before .before .before .before .before .before .before .before .before .before .pool .given)) (A .kind) (omega (arith, p)) (omega (arith, p)) (omega (arith, x .1 .within)) (c .before .before .before .before .put .ensures)))
 
 pub +bracketed+expression+joined+named+operand+primary+signed+wrapped-spec : {M : Type 1} → statement M
-+bracketed+expression+joined+named+operand+primary+signed+wrapped-spec = close μ-bracketed μ-expression μ-joined μ-named μ-operand μ-primary μ-signed μ-wrapped (λ t. bracketed-lts.spec (bracketed-env t) (bracketed-at t) bracketed.Post (bracketed-next-word-requires t) (bracketed-broken-requires t) (bracketed-returns t) (bracketed-too-deep-requires t) (bracketed-returns-2 t) (bracketed-add-expression t) (bracketed-expression-requires t) (bracketed-same-length t) (bracketed-returns-3 t) (bracketed-expect-requires t) (bracketed-same-length-2 t) (bracketed-returns-4 t) (bracketed-same-length-3 t) (bracketed-returns-5 t)) (λ t. expression-lts.spec (operand-below t, operand.Post, joined-below t, joined.Post) (expression-at t) expression.Post (expression-operand-requires t) (expression-same-length t) (expression-returns t) (expression-joined-requires t) (expression-same-length-2 t) (expression-returns-2 t)) (λ t. joined-lts.spec (joined-env t) (joined-at t) joined.Post (joined-next-word-requires t) (joined-operator-requires t) (joined-level-requires t) (joined-returns t) (joined-add-expression t) (joined-expression-requires t) (joined-same-length t) (joined-returns-2 t) (joined-add-put t) (joined-cast-put t) (joined-add-put-2 t) (joined-cast-put-2 t) (joined-cast-put-3 t) (joined-cast-put-4 t) (joined-put-requires t) (joined-add-joined t) (joined-add-joined-2 t) (joined-joined-requires t) (joined-same-length-2 t) (joined-returns-3 t)) (λ t. named-lts.spec (named-env t) (named-at t) named.Post (named-next-word-requires t) (named-add-put t) (named-cast-put t) (named-put-requires t) (named-add-leaf t) (named-leaf-requires t) (named-same-length t) (named-returns t) (named-too-deep-requires t) (named-returns-2 t) (named-add-expression t) (named-expression-requires t) (named-same-length-2 t) (named-returns-3 t) (named-expect-requires t) (named-same-length-3 t) (named-returns-4 t) (named-add-put-2 t) (named-cast-put-2 t) (named-cast-put-3 t) (named-cast-put-4 t) (named-put-requires-2 t) (named-add-leaf-2 t) (named-leaf-requires-2 t) (named-same-length-4 t) (named-returns-5 t)) (λ t. operand-lts.spec (operand-env t) (operand-at t) operand.Post (operand-next-word-requires t) (operand-next-word-requires-2 t) (operand-add-put t) (operand-low-requires t) (operand-high-requires t) (operand-cast-put t) (operand-put-requires t) (operand-add-leaf t) (operand-leaf-requires t) (operand-same-length t) (operand-returns t) (operand-signed-requires t) (operand-same-length-2 t) (operand-returns-2 t) (operand-signed-requires-2 t) (operand-same-length-3 t) (operand-returns-3 t) (operand-primary-requires t) (operand-same-length-4 t) (operand-returns-4 t)) (λ t. primary-lts.spec (primary-env t) (primary-at t) primary.Post (primary-next-word-requires t) (primary-named-requires t) (primary-same-length t) (primary-returns t) (primary-add-put t) (primary-low-requires t) (primary-high-requires t) (primary-cast-put t) (primary-put-requires t) (primary-add-leaf t) (primary-leaf-requires t) (primary-same-length-2 t) (primary-returns-2 t) (primary-add-put-2 t) (primary-cast-put-2 t) (primary-put-requires-2 t) (primary-add-leaf-2 t) (primary-leaf-requires-2 t) (primary-same-length-3 t) (primary-returns-3 t) (primary-add-put-3 t) (primary-cast-put-3 t) (primary-put-requires-3 t) (primary-add-leaf-3 t) (primary-leaf-requires-3 t) (primary-same-length-4 t) (primary-returns-4 t) (primary-conversion-requires t) (primary-wrapped-requires t) (primary-same-length-5 t) (primary-returns-5 t) (primary-wrapped-requires-2 t) (primary-same-length-6 t) (primary-returns-6 t)) (λ t. signed-lts.spec (signed-env t) (signed-at t) signed.Post (signed-primary-requires t) (signed-same-length t) (signed-returns t) (signed-add-put t) (signed-cast-put t) (signed-cast-put-2 t) (signed-put-requires t) (signed-add-leaf t) (signed-leaf-requires t) (signed-same-length-2 t) (signed-returns-2 t)) λ t. wrapped-lts.spec (wrapped-env t) (wrapped-at t) wrapped.Post (wrapped-bracketed-requires t) (wrapped-same-length t) (wrapped-returns t) (wrapped-add-put t) (wrapped-cast-put t) (wrapped-cast-put-2 t) (wrapped-put-requires t) (wrapped-add-leaf t) (wrapped-leaf-requires t) (wrapped-same-length-2 t) (wrapped-returns-2 t)
++bracketed+expression+joined+named+operand+primary+signed+wrapped-spec = close μ-bracketed μ-expression μ-joined μ-named μ-operand μ-primary μ-signed μ-wrapped (λ t. bracketed-lts.spec (bracketed-env t) (bracketed-at t) bracketed.Post (bracketed-next-word-requires t) (bracketed-broken-requires t) (bracketed-returns t) (bracketed-too-deep-requires t) (bracketed-returns-2 t) (bracketed-add-expression t) (bracketed-expression-requires t) (bracketed-same-length t) (bracketed-returns-3 t) (bracketed-expect-requires t) (bracketed-same-length-2 t) (bracketed-returns-4 t) (bracketed-same-length-3 t) (bracketed-returns-5 t)) (λ t. expression-lts.spec (operand-below t, operand.Post, joined-below t, joined.Post) (expression-at t) expression.Post (expression-operand-requires t) (expression-same-length t) (expression-returns t) (expression-joined-requires t) (expression-same-length-2 t) (expression-returns-2 t)) (λ t. joined-lts.spec (joined-env t) (joined-at t) joined.Post joined-Inv-loop joined-μ-loop (joined-loop-holds t) (joined-next-word-requires t) (joined-operator-requires t) (joined-level-requires t) (joined-add-expression t) (joined-expression-requires t) (joined-same-length t) (joined-returns t) (joined-add-n t) (joined-cast-put t) (joined-add-put t) (joined-cast-put-2 t) (joined-cast-put-3 t) (joined-cast-put-4 t) (joined-put-requires t) (joined-loop-less t) (joined-loop-again t) (joined-same-length-2 t) (joined-returns-2 t)) (λ t. named-lts.spec (named-env t) (named-at t) named.Post (named-next-word-requires t) (named-add-put t) (named-cast-put t) (named-put-requires t) (named-add-leaf t) (named-leaf-requires t) (named-same-length t) (named-returns t) (named-too-deep-requires t) (named-returns-2 t) (named-add-expression t) (named-expression-requires t) (named-same-length-2 t) (named-returns-3 t) (named-expect-requires t) (named-same-length-3 t) (named-returns-4 t) (named-add-put-2 t) (named-cast-put-2 t) (named-cast-put-3 t) (named-cast-put-4 t) (named-put-requires-2 t) (named-add-leaf-2 t) (named-leaf-requires-2 t) (named-same-length-4 t) (named-returns-5 t)) (λ t. operand-lts.spec (operand-env t) (operand-at t) operand.Post (operand-next-word-requires t) (operand-next-word-requires-2 t) (operand-add-put t) (operand-low-requires t) (operand-high-requires t) (operand-cast-put t) (operand-put-requires t) (operand-add-leaf t) (operand-leaf-requires t) (operand-same-length t) (operand-returns t) (operand-signed-requires t) (operand-same-length-2 t) (operand-returns-2 t) (operand-signed-requires-2 t) (operand-same-length-3 t) (operand-returns-3 t) (operand-primary-requires t) (operand-same-length-4 t) (operand-returns-4 t)) (λ t. primary-lts.spec (primary-env t) (primary-at t) primary.Post (primary-next-word-requires t) (primary-named-requires t) (primary-same-length t) (primary-returns t) (primary-add-put t) (primary-low-requires t) (primary-high-requires t) (primary-cast-put t) (primary-put-requires t) (primary-add-leaf t) (primary-leaf-requires t) (primary-same-length-2 t) (primary-returns-2 t) (primary-add-put-2 t) (primary-cast-put-2 t) (primary-put-requires-2 t) (primary-add-leaf-2 t) (primary-leaf-requires-2 t) (primary-same-length-3 t) (primary-returns-3 t) (primary-add-put-3 t) (primary-cast-put-3 t) (primary-put-requires-3 t) (primary-add-leaf-3 t) (primary-leaf-requires-3 t) (primary-same-length-4 t) (primary-returns-4 t) (primary-conversion-requires t) (primary-wrapped-requires t) (primary-same-length-5 t) (primary-returns-5 t) (primary-wrapped-requires-2 t) (primary-same-length-6 t) (primary-returns-6 t)) (λ t. signed-lts.spec (signed-env t) (signed-at t) signed.Post (signed-primary-requires t) (signed-same-length t) (signed-returns t) (signed-add-put t) (signed-cast-put t) (signed-cast-put-2 t) (signed-put-requires t) (signed-add-leaf t) (signed-leaf-requires t) (signed-same-length-2 t) (signed-returns-2 t)) λ t. wrapped-lts.spec (wrapped-env t) (wrapped-at t) wrapped.Post (wrapped-bracketed-requires t) (wrapped-same-length t) (wrapped-returns t) (wrapped-add-put t) (wrapped-cast-put t) (wrapped-cast-put-2 t) (wrapped-put-requires t) (wrapped-add-leaf t) (wrapped-leaf-requires t) (wrapped-same-length-2 t) (wrapped-returns-2 t)

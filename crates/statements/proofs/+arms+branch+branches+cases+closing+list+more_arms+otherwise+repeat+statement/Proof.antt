@@ -8,7 +8,8 @@ use native.Mathlib.Omega.{arith}
 use lib.ListN.{length}
 use borrow.Author.Tests.{eqb-true, eqb-false, not-true, not-false}
 use Rattle.expressions.proofs.Moves.{class-moves}
-use Rattle.statements.proofs.Rooms.{Spare}
+use Rattle.statements.specs.Lists.{ListDid}
+use Rattle.statements.proofs.Rooms.{Spare, Turn, begun, turned}
 use Rattle.statements.proofs.Lists.{list-bad, list-open, list-stop, list-on}
 use Rattle.statements.proofs.Begins.{statement-none, statement-deep, statement-name, statement-if, statement-case, statement-for, statement-empty}
 use Rattle.statements.proofs.Headed.{headed-bad, headed-open, headed-half}
@@ -451,54 +452,66 @@ closing-returns-4 : (t : ℕ) → closing-lts.Need-returns-4 (closing-env t) (cl
 closing-returns-4 t c =
     closing-good (c .before .before .before .before .before .before .before .before .before .before .before .before .before .before .args .depth) (c .before .before .before .before .before .before .before .before .before .before .before .before .before .before .args .class) (c .before .before .before .before .before .before .before .before .before .before .before .next-word .ensures) (c .before .before .before .before .before .before .before .before .before .if1 .left) (c .before .before .before .before .before .before .before .list .ensures) (c .before .before .before .if2 .left) (c .before .before .expect2 .ensures) (c .if3 .left) refl
 
+abbrev list-Inv-loop : list-lts.InvT-loop
+list-Inv-loop text at depth pool₀ count before from₀ nodes₀ root₀ pool from nodes root = Turn (λ old new a n b r. ListDid text old new a depth n b r) text pool₀ at count before pool from nodes root
+
+abbrev list-μ-loop : list-lts.MeasureT-loop
+list-μ-loop text at depth pool₀ count before from₀ nodes₀ root₀ pool from nodes root = length text - from
+
 abbrev list-env : ℕ → list-lts.Claims
-list-env t = (statement-below t, statement′.Post, expect-reads.Asked, expect-reads.Learnt, linked-reads.Asked, linked-reads.Learnt, next-word-reads.Asked, next-word-reads.Learnt, starts-reads.Asked, starts-reads.Learnt, list-below t, list.Post)
+list-env t = (statement-below t, statement′.Post, expect-reads.Asked, expect-reads.Learnt, linked-reads.Asked, linked-reads.Learnt, next-word-reads.Asked, next-word-reads.Learnt, starts-reads.Asked, starts-reads.Learnt)
 
-list-statement-requires : (t : ℕ) → list-lts.Need-statement-requires (list-env t) (list-at t) list.Post
-list-statement-requires t c κs = search needs
+list-loop-holds : (t : ℕ) → list-lts.Need-loop-holds (list-env t) (list-at t) list.Post list-Inv-loop list-μ-loop
+list-loop-holds t c = begun (c .before .before .pre .1 .0) (c .before .before .pre .1 .1)
 
-list-same-length : (t : ℕ) → list-lts.Need-same-length (list-env t) (list-at t) list.Post
-list-same-length t c = search needs
+list-statement-requires : (t : ℕ) → list-lts.Need-statement-requires (list-env t) (list-at t) list.Post list-Inv-loop list-μ-loop
+list-statement-requires t c κs = omega (arith, c .before .loop .inv .room, c .before .loop .inv .from, c .before .before .before .before .pre)
 
-list-returns : (t : ℕ) → list-lts.Need-returns (list-env t) (list-at t) list.Post
-list-returns t c =
-    list-bad (c .before .before .before .before .before .before .before .before .args .depth) (c .before .before .before .before .before .before .before .before .args .before) (c .before .before .before .before .statement .ensures) (c .if1 .taken)
+list-same-length : (t : ℕ) → list-lts.Need-same-length (list-env t) (list-at t) list.Post list-Inv-loop list-μ-loop
+list-same-length t c = omega (arith, c .before .before .before .before .statement .kept, c .before .before .before .before .before .before .loop .inv .long)
 
-list-expect-requires : (t : ℕ) → list-lts.Need-expect-requires (list-env t) (list-at t) list.Post
-list-expect-requires t c κs = search needs
+list-returns : (t : ℕ) → list-lts.Need-returns (list-env t) (list-at t) list.Post list-Inv-loop list-μ-loop
+list-returns t c = c .before .before .before .before .before .before .loop .inv .on (list-bad (c .before .before .before .before .before .before .before .before .before .args .depth) (c .before .before .before .before .before .before .loop .root) (c .before .before .before .before .statement .ensures) (c .if1 .taken))
 
-list-same-length-2 : (t : ℕ) → list-lts.Need-same-length-2 (list-env t) (list-at t) list.Post
-list-same-length-2 t c = search needs
+list-expect-requires : (t : ℕ) → list-lts.Need-expect-requires (list-env t) (list-at t) list.Post list-Inv-loop list-μ-loop
+list-expect-requires t c κs = omega (arith, c .before .before .before .before .before .before .loop .inv .room, c .before .before .before .before .statement .ensures .within)
 
-list-returns-2 : (t : ℕ) → list-lts.Need-returns-2 (list-env t) (list-at t) list.Post
-list-returns-2 t c =
-    list-open (c .before .before .before .before .before .before .before .before .before .before .before .args .depth) (c .before .before .before .before .before .before .before .before .before .before .before .args .before) (c .before .before .before .before .before .before .before .statement .ensures) (c .before .before .before .if1 .left) (c .before .before .expect .ensures) (c .if2 .taken)
+list-same-length-2 : (t : ℕ) → list-lts.Need-same-length-2 (list-env t) (list-at t) list.Post list-Inv-loop list-μ-loop
+list-same-length-2 t c = omega (arith, c .before .before .before .before .before .before .before .statement .kept, c .before .before .before .before .before .before .before .before .before .loop .inv .long)
 
-list-linked-requires : (t : ℕ) → list-lts.Need-linked-requires (list-env t) (list-at t) list.Post
-list-linked-requires t c κs = omega (arith, c .before .before .before .before .before .before .before .before .before .before .before .before .pre, c .before .before .before .before .before .before .before .before .statement .ensures .within, c .before .before .before .before .before .before .before .before .statement .kept, c .before .before .before .expect .ensures .within, c .before .before .before .expect .ensures .step refl refl, c .before .before .before .expect .ensures .count)
+list-returns-2 : (t : ℕ) → list-lts.Need-returns-2 (list-env t) (list-at t) list.Post list-Inv-loop list-μ-loop
+list-returns-2 t c = c .before .before .before .before .before .before .before .before .before .loop .inv .on (list-open (c .before .before .before .before .before .before .before .before .before .before .before .before .args .depth) (c .before .before .before .before .before .before .before .before .before .loop .root) (c .before .before .before .before .before .before .before .statement .ensures) (c .before .before .before .if1 .left) (c .before .before .expect .ensures) (c .if2 .taken))
 
-list-next-word-requires : (t : ℕ) → list-lts.Need-next-word-requires (list-env t) (list-at t) list.Post
-list-next-word-requires t c κs = omega (arith, c .before .before .before .before .before .before .before .before .before .before .before .before .before .before .before .pre, c .before .before .before .before .before .before .expect .ensures .within)
+list-linked-requires : (t : ℕ) → list-lts.Need-linked-requires (list-env t) (list-at t) list.Post list-Inv-loop list-μ-loop
+list-linked-requires t c κs = omega (arith, c .before .before .before .before .before .before .before .before .before .before .loop .inv .room, c .before .before .before .before .before .before .before .before .before .before .loop .inv .rooted, c .before .before .before .before .before .before .before .before .statement .ensures .within, c .before .before .before .before .before .before .before .before .statement .kept, c .before .before .before .expect .ensures .within, c .before .before .before .expect .ensures .step refl refl, c .before .before .before .expect .ensures .count)
 
-list-starts-requires : (t : ℕ) → list-lts.Need-starts-requires (list-env t) (list-at t) list.Post
+list-next-word-requires : (t : ℕ) → list-lts.Need-next-word-requires (list-env t) (list-at t) list.Post list-Inv-loop list-μ-loop
+list-next-word-requires t c κs = omega (arith, c .before .before .before .before .before .before .before .before .before .before .before .before .before .loop .inv .room, c .before .before .before .before .before .before .expect .ensures .within)
+
+list-starts-requires : (t : ℕ) → list-lts.Need-starts-requires (list-env t) (list-at t) list.Post list-Inv-loop list-μ-loop
 list-starts-requires t c κs = search needs
 
-list-list-requires : (t : ℕ) → list-lts.Need-list-requires (list-env t) (list-at t) list.Post
-list-list-requires t c κs = omega (arith, c .before .before .before .before .before .before .before .before .before .before .before .before .before .before .before .before .before .before .before .pre, c .before .before .before .before .before .before .before .before .before .before .before .before .before .before .before .statement .ensures .within, c .before .before .before .before .before .before .before .before .before .before .before .before .before .before .before .statement .kept, c .before .before .before .before .before .before .before .before .before .before .expect .ensures .within, c .before .before .before .before .before .before .before .before .before .before .expect .ensures .step refl refl, c .before .before .before .before .before .before .before .before .before .before .expect .ensures .count, c .before .before .before .before .before .before .linked .ensures .more, c .before .before .before .before .before .before .linked .ensures .few, c .before .before .before .before .before .before .linked .ensures .rooted, c .before .before .before .before .before .before .linked .kept)
+list-loop-less : (t : ℕ) → list-lts.Need-loop-less (list-env t) (list-at t) list.Post list-Inv-loop list-μ-loop
+list-loop-less t c = omega (arith, c .before .before .before .before .before .before .before .before .before .before .before .before .before .before .before .before .loop .inv .room, c .before .before .before .before .before .before .before .before .before .before .before .before .before .before .statement .ensures .within, c .before .before .before .before .before .before .before .before .before .expect .ensures .within, c .before .before .before .before .before .before .before .before .before .expect .ensures .step refl refl)
 
-list-same-length-3 : (t : ℕ) → list-lts.Need-same-length-3 (list-env t) (list-at t) list.Post
-list-same-length-3 t c = omega (arith, c .before .before .before .before .before .before .before .before .before .before .before .before .before .before .before .before .before .before .statement .kept, c .before .before .before .before .before .before .before .before .before .linked .kept, c .before .before .list .kept)
+list-loop-again : (t : ℕ) → list-lts.Need-loop-again (list-env t) (list-at t) list.Post list-Inv-loop list-μ-loop
+list-loop-again t c =
+    let L = c .before .before .before .before .before .before .before .before .before .before .before .before .before .before .before .before .loop in
+    let s = c .before .before .before .before .before .before .before .before .before .before .before .before .before .before .statement .ensures .within in
+    let e = c .before .before .before .before .before .before .before .before .before .expect .ensures in
+    let l = c .before .before .before .before .before .linked .ensures in
+    turned (L .inv) (omega (arith, L .inv .room, s, c .before .before .before .before .before .before .before .before .before .before .before .before .before .before .statement .kept, e .within, e .step refl refl, e .count, l .more, l .few, c .before .before .before .before .before .linked .kept))
+    (l .rooted) (omega (arith, s, e .within)) (omega (arith, c .before .before .before .before .before .before .before .before .before .before .before .before .before .before .statement .kept, c .before .before .before .before .before .linked .kept))
+    (λ end r x. list-on (c .before .before .before .before .before .before .before .before .before .before .before .before .before .before .before .before .before .before .before .args .depth) (L .root) (c .before .before .before .before .before .before .before .before .before .before .before .before .before .before .statement .ensures) (c .before .before .before .before .before .before .before .before .before .before .if1 .left) e (c .before .before .before .before .before .before .before .if2 .left) l (L .inv .rooted) (c .before .before .next-word .ensures) (c .before .starts .result) (c .before .starts .ensures) (not-false (c .before .starts .result) (c .if3 .left)) x)
 
-list-returns-3 : (t : ℕ) → list-lts.Need-returns-3 (list-env t) (list-at t) list.Post
+list-same-length-3 : (t : ℕ) → list-lts.Need-same-length-3 (list-env t) (list-at t) list.Post list-Inv-loop list-μ-loop
+list-same-length-3 t c = omega (arith, c .before .before .before .before .before .linked .kept, c .before .before .before .before .before .before .before .before .before .before .before .before .before .before .statement .kept, c .before .before .before .before .before .before .before .before .before .before .before .before .before .before .before .before .loop .inv .long)
+
+list-returns-3 : (t : ℕ) → list-lts.Need-returns-3 (list-env t) (list-at t) list.Post list-Inv-loop list-μ-loop
 list-returns-3 t c =
-    list-on (c .before .before .before .before .before .before .before .before .before .before .before .before .before .before .before .before .before .before .before .before .before .before .args .depth) (c .before .before .before .before .before .before .before .before .before .before .before .before .before .before .before .before .before .before .before .before .before .before .args .before) (c .before .before .before .before .before .before .before .before .before .before .before .before .before .before .before .before .before .before .statement .ensures) (c .before .before .before .before .before .before .before .before .before .before .before .before .before .before .if1 .left) (c .before .before .before .before .before .before .before .before .before .before .before .before .before .expect .ensures) (c .before .before .before .before .before .before .before .before .before .before .before .if2 .left) (c .before .before .before .before .before .before .before .before .before .linked .ensures) (c .before .before .before .before .before .before .before .before .before .before .before .before .before .before .before .before .before .before .before .before .before .before .pre .1 .1) (c .before .before .before .before .before .before .next-word .ensures) (c .before .before .before .before .before .starts .result) (c .before .before .before .before .before .starts .ensures) (c .before .before .before .before .if3 .taken) (c .before .before .list .ensures)
-
-list-same-length-4 : (t : ℕ) → list-lts.Need-same-length-4 (list-env t) (list-at t) list.Post
-list-same-length-4 t c = search needs
-
-list-returns-4 : (t : ℕ) → list-lts.Need-returns-4 (list-env t) (list-at t) list.Post
-list-returns-4 t c =
-    list-stop (c .before .before .before .before .before .before .before .before .before .before .before .before .before .before .before .before .before .before .args .depth) (c .before .before .before .before .before .before .before .before .before .before .before .before .before .before .before .before .before .before .args .before) (c .before .before .before .before .before .before .before .before .before .before .before .before .before .before .statement .ensures) (c .before .before .before .before .before .before .before .before .before .before .if1 .left) (c .before .before .before .before .before .before .before .before .before .expect .ensures) (c .before .before .before .before .before .before .before .if2 .left) (c .before .before .before .before .before .linked .ensures) (c .before .before .before .before .before .before .before .before .before .before .before .before .before .before .before .before .before .before .pre .1 .1) (c .before .before .next-word .ensures) (c .before .starts .result) (c .before .starts .ensures) (c .if3 .left) refl
+    let L = c .before .before .before .before .before .before .before .before .before .before .before .before .before .before .before .before .loop in
+    L .inv .on
+    (list-stop (c .before .before .before .before .before .before .before .before .before .before .before .before .before .before .before .before .before .before .before .args .depth) (L .root) (c .before .before .before .before .before .before .before .before .before .before .before .before .before .before .statement .ensures) (c .before .before .before .before .before .before .before .before .before .before .if1 .left) (c .before .before .before .before .before .before .before .before .before .expect .ensures) (c .before .before .before .before .before .before .before .if2 .left) (c .before .before .before .before .before .linked .ensures) (L .inv .rooted) (c .before .before .next-word .ensures) (c .before .starts .result) (c .before .starts .ensures) (not-true (c .before .starts .result) (c .if3 .taken)) refl)
 
 abbrev more-arms-env : ℕ → more-arms-lts.Claims
 more-arms-env t = (next-word-reads.Asked, next-word-reads.Learnt, arms-below t, arms.Post, closing-below t, closing.Post, else-list-reads.Asked, else-list-reads.Learnt)
@@ -700,4 +713,4 @@ statement-returns-7 t c =
     statement-empty (c .before .before .before .before .before .before .before .before .before .before .before .before .before .before .args .depth) (c .before .before .before .before .before .before .before .before .before .before .before .next-word .ensures) (c .before .before .before .before .before .before .before .before .before .before .starts .result) (c .before .before .before .before .before .before .before .before .before .before .starts .ensures) (not-false (c .before .before .before .before .before .before .before .before .before .before .starts .result) (c .before .before .before .before .before .before .before .before .before .if1 .left)) (c .before .before .before .before .before .before .before .before .if2 .left) (c .before .before .before .before .before .before .if3 .left) (c .before .before .before .before .if4 .left) (c .before .before .if5 .left) (c .if6 .left) refl
 
 pub +arms+branch+branches+cases+closing+list+more-arms+otherwise+repeat+statement-spec : {M : Type 1} → statement M
-+arms+branch+branches+cases+closing+list+more-arms+otherwise+repeat+statement-spec = close μ-arms μ-branch μ-branches μ-cases μ-closing μ-list μ-more-arms μ-otherwise μ-repeat μ-statement (λ t. arms-lts.spec (arms-env t) (arms-at t) arms.Post (arms-labels-requires t) (arms-same-length t) (arms-returns t) (arms-add-list t) (arms-list-requires t) (arms-same-length-2 t) (arms-returns-2 t) (arms-more-arms-requires t) (arms-same-length-3 t) (arms-returns-3 t) (arms-add-put t) (arms-cast-put t) (arms-cast-put-2 t) (arms-cast-put-3 t) (arms-put-requires t) (arms-add-leaf t) (arms-leaf-requires t) (arms-same-length-4 t) (arms-returns-4 t)) (λ t. branch-lts.spec (branch-env t) (branch-at t) branch.Post (branch-expression-requires t) (branch-same-length t) (branch-returns t) (branch-expect-requires t) (branch-same-length-2 t) (branch-returns-2 t) (branch-branches-requires t) (branch-same-length-3 t) (branch-returns-3 t) (branch-add-put t) (branch-cast-put t) (branch-cast-put-2 t) (branch-cast-put-3 t) (branch-put-requires t) (branch-add-leaf t) (branch-leaf-requires t) (branch-same-length-4 t) (branch-returns-4 t)) (λ t. branches-lts.spec (branches-env t) (branches-at t) branches.Post (branches-add-list t) (branches-list-requires t) (branches-same-length t) (branches-returns t) (branches-otherwise-requires t) (branches-same-length-2 t) (branches-returns-2 t) (branches-add-put t) (branches-cast-put t) (branches-cast-put-2 t) (branches-cast-put-3 t) (branches-put-requires t) (branches-add-leaf t) (branches-leaf-requires t) (branches-same-length-3 t) (branches-returns-3 t)) (λ t. cases-lts.spec (cases-env t) (cases-at t) cases.Post (cases-expression-requires t) (cases-same-length t) (cases-returns t) (cases-expect-requires t) (cases-same-length-2 t) (cases-returns-2 t) (cases-arms-requires t) (cases-same-length-3 t) (cases-returns-3 t) (cases-add-put t) (cases-cast-put t) (cases-cast-put-2 t) (cases-cast-put-3 t) (cases-put-requires t) (cases-add-leaf t) (cases-leaf-requires t) (cases-same-length-4 t) (cases-returns-4 t)) (λ t. closing-lts.spec (closing-env t) (closing-at t) closing.Post (closing-next-word-requires t) (closing-expect-requires t) (closing-returns t) (closing-add-list t) (closing-list-requires t) (closing-same-length t) (closing-returns-2 t) (closing-expect-requires-2 t) (closing-same-length-2 t) (closing-returns-3 t) (closing-same-length-3 t) (closing-returns-4 t)) (λ t. list-lts.spec (list-env t) (list-at t) list.Post (list-statement-requires t) (list-same-length t) (list-returns t) (list-expect-requires t) (list-same-length-2 t) (list-returns-2 t) (list-linked-requires t) (list-next-word-requires t) (list-starts-requires t) (list-list-requires t) (list-same-length-3 t) (list-returns-3 t) (list-same-length-4 t) (list-returns-4 t)) (λ t. more-arms-lts.spec (more-arms-env t) (more-arms-at t) more-arms.Post (more-arms-next-word-requires t) (more-arms-add-arms t) (more-arms-arms-requires t) (more-arms-same-length t) (more-arms-returns t) (more-arms-closing-requires t) (more-arms-else-list-requires t) (more-arms-same-length-2 t) (more-arms-returns-2 t)) (λ t. otherwise-lts.spec (otherwise-env t) (otherwise-at t) otherwise.Post (otherwise-next-word-requires t) (otherwise-add-branch t) (otherwise-branch-requires t) (otherwise-same-length t) (otherwise-returns t) (otherwise-closing-requires t) (otherwise-same-length-2 t) (otherwise-returns-2 t)) (λ t. repeat-lts.spec (repeat-env t) (repeat-at t) repeat.Post (repeat-head-requires t) (repeat-same-length t) (repeat-returns t) (repeat-add-list t) (repeat-list-requires t) (repeat-same-length-2 t) (repeat-returns-2 t) (repeat-expect-requires t) (repeat-same-length-3 t) (repeat-returns-3 t) (repeat-add-put t) (repeat-cast-put t) (repeat-cast-put-2 t) (repeat-cast-put-3 t) (repeat-put-requires t) (repeat-add-leaf t) (repeat-leaf-requires t) (repeat-same-length-4 t) (repeat-returns-4 t)) λ t. statement-lts.spec (statement-env t) (statement-at t) statement′.Post (statement-next-word-requires t) (statement-starts-requires t) (statement-returns t) (statement-returns-2 t) (statement-assignment-requires t) (statement-same-length t) (statement-returns-3 t) (statement-branch-requires t) (statement-same-length-2 t) (statement-returns-4 t) (statement-cases-requires t) (statement-same-length-3 t) (statement-returns-5 t) (statement-repeat-requires t) (statement-same-length-4 t) (statement-returns-6 t) (statement-returns-7 t)
++arms+branch+branches+cases+closing+list+more-arms+otherwise+repeat+statement-spec = close μ-arms μ-branch μ-branches μ-cases μ-closing μ-list μ-more-arms μ-otherwise μ-repeat μ-statement (λ t. arms-lts.spec (arms-env t) (arms-at t) arms.Post (arms-labels-requires t) (arms-same-length t) (arms-returns t) (arms-add-list t) (arms-list-requires t) (arms-same-length-2 t) (arms-returns-2 t) (arms-more-arms-requires t) (arms-same-length-3 t) (arms-returns-3 t) (arms-add-put t) (arms-cast-put t) (arms-cast-put-2 t) (arms-cast-put-3 t) (arms-put-requires t) (arms-add-leaf t) (arms-leaf-requires t) (arms-same-length-4 t) (arms-returns-4 t)) (λ t. branch-lts.spec (branch-env t) (branch-at t) branch.Post (branch-expression-requires t) (branch-same-length t) (branch-returns t) (branch-expect-requires t) (branch-same-length-2 t) (branch-returns-2 t) (branch-branches-requires t) (branch-same-length-3 t) (branch-returns-3 t) (branch-add-put t) (branch-cast-put t) (branch-cast-put-2 t) (branch-cast-put-3 t) (branch-put-requires t) (branch-add-leaf t) (branch-leaf-requires t) (branch-same-length-4 t) (branch-returns-4 t)) (λ t. branches-lts.spec (branches-env t) (branches-at t) branches.Post (branches-add-list t) (branches-list-requires t) (branches-same-length t) (branches-returns t) (branches-otherwise-requires t) (branches-same-length-2 t) (branches-returns-2 t) (branches-add-put t) (branches-cast-put t) (branches-cast-put-2 t) (branches-cast-put-3 t) (branches-put-requires t) (branches-add-leaf t) (branches-leaf-requires t) (branches-same-length-3 t) (branches-returns-3 t)) (λ t. cases-lts.spec (cases-env t) (cases-at t) cases.Post (cases-expression-requires t) (cases-same-length t) (cases-returns t) (cases-expect-requires t) (cases-same-length-2 t) (cases-returns-2 t) (cases-arms-requires t) (cases-same-length-3 t) (cases-returns-3 t) (cases-add-put t) (cases-cast-put t) (cases-cast-put-2 t) (cases-cast-put-3 t) (cases-put-requires t) (cases-add-leaf t) (cases-leaf-requires t) (cases-same-length-4 t) (cases-returns-4 t)) (λ t. closing-lts.spec (closing-env t) (closing-at t) closing.Post (closing-next-word-requires t) (closing-expect-requires t) (closing-returns t) (closing-add-list t) (closing-list-requires t) (closing-same-length t) (closing-returns-2 t) (closing-expect-requires-2 t) (closing-same-length-2 t) (closing-returns-3 t) (closing-same-length-3 t) (closing-returns-4 t)) (λ t. list-lts.spec (list-env t) (list-at t) list.Post list-Inv-loop list-μ-loop (list-loop-holds t) (list-statement-requires t) (list-same-length t) (list-returns t) (list-expect-requires t) (list-same-length-2 t) (list-returns-2 t) (list-linked-requires t) (list-next-word-requires t) (list-starts-requires t) (list-loop-less t) (list-loop-again t) (list-same-length-3 t) (list-returns-3 t)) (λ t. more-arms-lts.spec (more-arms-env t) (more-arms-at t) more-arms.Post (more-arms-next-word-requires t) (more-arms-add-arms t) (more-arms-arms-requires t) (more-arms-same-length t) (more-arms-returns t) (more-arms-closing-requires t) (more-arms-else-list-requires t) (more-arms-same-length-2 t) (more-arms-returns-2 t)) (λ t. otherwise-lts.spec (otherwise-env t) (otherwise-at t) otherwise.Post (otherwise-next-word-requires t) (otherwise-add-branch t) (otherwise-branch-requires t) (otherwise-same-length t) (otherwise-returns t) (otherwise-closing-requires t) (otherwise-same-length-2 t) (otherwise-returns-2 t)) (λ t. repeat-lts.spec (repeat-env t) (repeat-at t) repeat.Post (repeat-head-requires t) (repeat-same-length t) (repeat-returns t) (repeat-add-list t) (repeat-list-requires t) (repeat-same-length-2 t) (repeat-returns-2 t) (repeat-expect-requires t) (repeat-same-length-3 t) (repeat-returns-3 t) (repeat-add-put t) (repeat-cast-put t) (repeat-cast-put-2 t) (repeat-cast-put-3 t) (repeat-put-requires t) (repeat-add-leaf t) (repeat-leaf-requires t) (repeat-same-length-4 t) (repeat-returns-4 t)) λ t. statement-lts.spec (statement-env t) (statement-at t) statement′.Post (statement-next-word-requires t) (statement-starts-requires t) (statement-returns t) (statement-returns-2 t) (statement-assignment-requires t) (statement-same-length t) (statement-returns-3 t) (statement-branch-requires t) (statement-same-length-2 t) (statement-returns-4 t) (statement-cases-requires t) (statement-same-length-3 t) (statement-returns-5 t) (statement-repeat-requires t) (statement-same-length-4 t) (statement-returns-6 t) (statement-returns-7 t)
