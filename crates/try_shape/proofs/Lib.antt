@@ -1,2 +1,1 @@
 pub mod Shaping
-pub mod Counting

@@ -2,7 +2,7 @@
 use Prim.Native.Nat.{_≤_}
 use native.Mathlib.Omega.{arith}
 use borrow.Author.Tests.{ltb-true}
-use Rattle.try_shape.proofs.Counting.{left, went-on}
+use Rattle.tally.proofs.Counting.{left, went-on}
 use Rattle.try_shape.proofs.all.Statement.{statement}
 use Rattle.try_shape.proofs.all.Tie as tie
 

@@ -3,8 +3,8 @@ use mathlib.Core.Path.{_≡_, refl}
 use mathlib.Core.Bool.{Bool, true, false, cond, _&&_}
 use Prim.Native.Nat.{ℕ, suc, _+_, _-_, _<_}
 use native.Mathlib.Omega.{arith}
-use Rattle.try_shape.specs.declared.Tally.{Tally}
-use Rattle.try_shape.specs.Shapes.{Went}
+use Rattle.tally.specs.declared.Tally.{Tally}
+use Rattle.tally.specs.Counts.{Went}
 
 -- both the same, or one of them not
 pub same : (x y : Bool) (d : ℕ) → x ≡ true → y ≡ true → d ≡ cond (x && y) d (d + 1)

@@ -1,12 +1,12 @@
--- `try_shape::compared` meets its contract.
+-- `tally::compared` meets its contract.
 use mathlib.Core.Path.{refl}
 use mathlib.Core.Logic.{⊎-elim}
 use native.Mathlib.Omega.{arith}
 use borrow.Author.Tests.{eq-eqb, ne-eqb}
 use borrow.Author.Needs.{needs}
-use Rattle.try_shape.proofs.Counting.{same, first-differs, second-differs}
-use Rattle.try_shape.proofs.compared.Statement.{statement}
-use Rattle.try_shape.proofs.compared.Tie as tie
+use Rattle.tally.proofs.Counting.{same, first-differs, second-differs}
+use Rattle.tally.proofs.compared.Statement.{statement}
+use Rattle.tally.proofs.compared.Tie as tie
 
 add-n : tie.Need-add-n
 add-n c = search needs

@@ -1,10 +1,10 @@
--- `try_shape::wanted` meets its contract.
+-- `tally::wanted` meets its contract.
 use mathlib.Core.Path.{refl}
 use borrow.Author.Tests.{le-leb, lt-leb}
 use borrow.Author.Needs.{needs}
 use Rattle.pack.specs.declared.Expected.the-variants.{Print, Refused, Neither}
-use Rattle.try_shape.proofs.wanted.Statement.{statement}
-use Rattle.try_shape.proofs.wanted.Tie as tie
+use Rattle.tally.proofs.wanted.Statement.{statement}
+use Rattle.tally.proofs.wanted.Tie as tie
 
 expected-in-requires : tie.Need-expected-in-requires
 expected-in-requires c κs = search needs
@@ -24,12 +24,12 @@ returns c = (Print, rw (c .enum-told .given .1) at (c .before .before .expected-
 returns-2 : tie.Need-returns-2
 returns-2 c =
     let g = c .before .before .n .given in
-    (Refused (g .0 .0) (g .0 .1 .0), rw (g .1) at (c .before .before .before .before .expected-in .ensures), rw (le-leb (g .0 .0) 4 (c .if1 .taken)))
+    (Refused (g .0 .0) (g .0 .1 .0), rw (g .1) at (c .before .before .before .before .expected-in .ensures), rw (le-leb (g .0 .0) _ (c .if1 .taken)))
 
 returns-3 : tie.Need-returns-3
 returns-3 c =
     let g = c .before .before .n .given in
-    (Refused (g .0 .0) (g .0 .1 .0), rw (g .1) at (c .before .before .before .before .expected-in .ensures), rw (lt-leb (g .0 .0) 4 (c .if1 .left)))
+    (Refused (g .0 .0) (g .0 .1 .0), rw (g .1) at (c .before .before .before .before .expected-in .ensures), rw (lt-leb (g .0 .0) _ (c .if1 .left)))
 
 returns-4 : tie.Need-returns-4
 returns-4 c = (Neither, rw (c .enum-told2 .given .1) at (c .before .before .expected-in .ensures), refl)

@@ -1,0 +1,3 @@
+pub mod Ruling
+pub mod Judging
+pub mod Firsts
