@@ -1,0 +1,58 @@
+-- `print::body::assignment` meets its contract.
+use native.Mathlib.Omega.{arith}
+use borrow.Author.Needs.{needs}
+use Rattle.paper.specs.Words.{bytes}
+use Rattle.tree.proofs.Frames.{child-most}
+use Rattle.print.proofs.Laws.{named, _then_}
+use Rattle.print.proofs.body.assignment.Statement.{statement}
+use Rattle.print.proofs.body.assignment.Tie as tie
+
+word-requires : tie.Need-word-requires
+word-requires c κs = search needs
+
+cast-cell : tie.Need-cast-cell
+cast-cell c = search needs
+
+cell-requires : tie.Need-cell-requires
+cell-requires c κs = search needs
+
+slice-aggregate-put : tie.Need-slice-aggregate-put
+slice-aggregate-put c = search needs
+
+put-requires : tie.Need-put-requires
+put-requires c κs = search needs
+
+child-requires : tie.Need-child-requires
+child-requires c κs = search needs
+
+expression-requires : tie.Need-expression-requires
+expression-requires c κs = (c .before .before .before .before .before .before .before .before .before .before .before .before .before .before .before .before .before .pre .0, rw (c .before .child .ensures) (omega (arith, c .before .before .before .before .before .before .before .before .before .before .before .before .before .before .before .before .before .pre, child-most (c .before .before .before .before .before .before .before .before .before .before .before .before .before .before .before .before .before .args .plain .now) (c .before .before .before .before .before .before .before .before .before .before .before .before .before .before .before .before .before .args .i) 2)))
+
+slice-aggregate-put-2 : tie.Need-slice-aggregate-put-2
+slice-aggregate-put-2 c = search needs
+
+put-requires-2 : tie.Need-put-requires-2
+put-requires-2 c κs = search needs
+
+same-length : tie.Need-same-length
+same-length c = search needs
+
+returns : tie.Need-returns
+unfolding bytes
+returns c = named (λ k. rw (c .before .before .before .before .before .before .before .before .before .child .ensures, c .before .before .before .before .before .before .before .before .before .before .before .before .before .before .before .before .before .before .before .word .ensures)) (c .before .before .before .before .before .before .before .before .before .before .before .before .before .before .before .before .before .cell .ensures then c .before .before .before .before .before .before .before .before .before .before .before .before .put .ensures then c .before .before .before .before .before .before .before .expression .ensures then c .before .before .put2 .ensures)
+
+pub assignment-spec : {M : Type 1} → statement M
+assignment-spec =
+    tie.close
+    (tie.spec
+    word-requires
+    cast-cell
+    cell-requires
+    slice-aggregate-put
+    put-requires
+    child-requires
+    expression-requires
+    slice-aggregate-put-2
+    put-requires-2
+    same-length
+    returns)
