@@ -24,7 +24,7 @@ use Rattle.paper.specs.Plain.{Stmts, State, Ran, figure}
 use Rattle.paper.specs.Meaning as M
 use Rattle.paper.specs.Unwinding.{unwoundProgram}
 use Rattle.paper.specs.Printing.{print}
-use Rattle.paper.specs.Tables.{Table, tableOf, runTable, Lent, lentOf, tableIn}
+use Rattle.paper.specs.Tables.{Table, tableOf, runTable, Lent, lentOf, tableIn, totalIn}
 
 -- ---- a text: 1 to 9
 
@@ -186,15 +186,36 @@ tableInto text rows cells = do
 abbrev pub ruled : Lent → Answer Table
 ruled t = elim (tableIn t) [ none ↦ refused BadTable 0 | some u ↦ given u ]
 
-unfoldable pub scanLent : Lent → List ℤ → List ℤ → Answer (List ℤ)
-scanLent t state inputs = do
+-- 10, where a buffer of the table, the state or the inputs is too short
+abbrev pub roomFor : Lent → List ℤ → List ℤ → Answer (Unit {0})
+roomFor t state inputs = do
   some₁ ← room (4 * t .rowCount) (t .rows)
   some₂ ← room (t .cellCount) (t .cells)
   some₃ ← room (t .cellCount) state
-  some₄ ← room (t .cellCount) inputs
-  u ← ruled t
+  room (t .cellCount) inputs
+
+-- 12, and the lent state after a scan from the table u
+abbrev pub scanBy : Table → List ℤ → List ℤ → Answer (List ℤ)
+scanBy u state inputs = do
   good ← valued (u .cells) state inputs
   given (over (lent (u .cells) (scanTable u (held (u .cells) inputs) (held (u .cells) state))) state)
+
+unfoldable pub scanLent : Lent → List ℤ → List ℤ → Answer (List ℤ)
+scanLent t state inputs = roomFor t state inputs >>= λ fit. ruled t >>= λ u. scanBy u state inputs
+
+-- rule 11 looked at once, before any scan
+unfoldable pub checkLent : Lent → Answer (Unit {0})
+checkLent t = do
+  some₁ ← room (4 * t .rowCount) (t .rows)
+  some₂ ← room (t .cellCount) (t .cells)
+  u ← ruled t
+  given tt
+
+-- and then not again: the total reading is run
+unfoldable pub scanChecked : Lent → List ℤ → List ℤ → Answer (List ℤ)
+scanChecked t state inputs =
+    roomFor t state inputs >>= λ fit.
+    elim (totalIn t) [ none ↦ refused BadTable 0 | some u ↦ scanBy u state inputs ]
 
 -- ---- runs of scans: the states after each, by the three ways
 

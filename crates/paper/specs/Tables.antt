@@ -4,7 +4,7 @@ use mathlib.Core.Option.{Option, none, some}
 use mathlib.Core.List.{List, [], _∷_, _++_, map}
 use Prim.Native.Nat.{ℕ, zero, suc, _+_, _*_, _-_, _/_, _%_, _^_}
 use lib.Dec.{ltb, leb, eqb}
-use lib.ListN.{length, getD, set, getElem?, take}
+use lib.ListN.{length, getD, set, getElem?, take, drop}
 use Rattle.paper.specs.declared.Ty.{Ty}
 use Rattle.paper.specs.declared.Ty.the-variants.{Bool as BOOL, Int as INT, Uint as UINT, Dint as DINT, Udint as UDINT}
 use Rattle.paper.specs.declared.Op.{Op}
@@ -327,4 +327,23 @@ tableIn t =
       | true ↦
           infosOf xs >>= λ is. linesOf (t .rowCount) (t .rows) >>= λ ls.
           cond (linesKeep is [] ls && cellsKeep ls is xs) (some (record { cells = is; rows = ls; next = map nextOf xs })) none
+    ]
+
+-- ---- the total reading, for a table that was checked before: an unknown operation is the number 0, an unknown type BOOL
+
+abbrev pub lineIn : ℕ → ℕ → ℕ → ℕ → Line
+lineIn o a b c = getD forms (o / 8) (λ t a b c. number t 0) (getD types (o % 8) BOOL) a b c
+
+-- the first n records
+unfoldable pub linesIn : ℕ → List ℕ → List Line
+linesIn zero rs = []
+linesIn (suc n) rs = lineIn (getD rs 0 0) (getD rs 1 0) (getD rs 2 0) (getD rs 3 0) ∷ linesIn n (drop 4 rs)
+
+-- only the counts and the cells' types are looked at
+unfoldable pub totalIn : Lent → Option Table
+totalIn t =
+    let xs = take (t .cellCount) (t .cells) in
+    elim (leb (t .cellCount) 64 && leb (t .rowCount) 3064) [
+      | false ↦ none
+      | true ↦ infosOf xs >>= λ is. some (record { cells = is; rows = linesIn (t .rowCount) (t .rows); next = map nextOf xs })
     ]
