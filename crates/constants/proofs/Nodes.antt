@@ -20,7 +20,7 @@ pub kind-some : (p : List ℕ) (i : ℕ) → 0 < kindOf p i → 0 < i
 kind-some p zero l = absurd (omega arith)
 kind-some p (suc i) l = omega arith
 
-kind-word : (p : List ℕ) (i : ℕ) → 0 < i → wordOf p i 0 ≡ kindOf p i
+pub kind-word : (p : List ℕ) (i : ℕ) → 0 < i → wordOf p i 0 ≡ kindOf p i
 kind-word p i l = sym (ap (λ b. cond b 0 (wordOf p i 0)) (ne-eqb i 0 (λ e. omega arith)))
 
 -- so that a child of a node with a kind is an earlier one

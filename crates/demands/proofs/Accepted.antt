@@ -1,8 +1,12 @@
--- What acceptance gives: no fault of names or types, and what the walk gave.
+-- What acceptance gives: a short text that was read, no fault of names or types, and what the walk gave.
 use mathlib.Core.Path.{_≡_, refl, sym}
+use mathlib.Core.Bool.{Bool, true, false}
 use mathlib.Core.Option.{Option, none, some}
 use mathlib.Core.List.{List, [], _∷_}
-use Prim.Native.Nat.{ℕ, min}
+use Prim.Native.Nat.{ℕ, min, _≤_}
+use borrow.Author.Tests.{leb-true}
+use lib.Dec.{leb}
+use lib.ListN.{length}
 use Rattle.paper.specs.declared.Why.{Why}
 use Rattle.paper.specs.declared.Why.the-variants.{BadName, BadType, TooHigh}
 use Rattle.paper.specs.declared.Ty.the-variants.{Dint as DINT}
@@ -36,22 +40,33 @@ faultless-none w ps t h = none-smallest ps (go (smallest ps) refl)
     go none e = e
     go (some p) e = refused-given (rw (e, faultless) at h)
 
+short-text : (text : List ℕ) (t : Unit {0}) → shortEnough text ≡ given t → length text ≤ 8192
+short-text text t h = leb-true (length text) 8192 (go (leb (length text) 8192) refl)
+  where
+    go : (b : Bool) → leb (length text) 8192 ≡ b → leb (length text) 8192 ≡ true
+    go true e = e
+    go false e = refused-given (rw (e, shortEnough) at h)
+
 -- the program and the walk that an accepted one rests on
 abbrev pub soundOf : Program → Unwound → Sound
 soundOf pr u =
     let vs = variablesOf (pr .declared) in
     record { program = pr; variables = vs; cells = cellsOf vs; plain = u .plain; weight = u .weight }
 
-pub record Accepted (a : Sound) : Type 0 where
+pub record Accepted (text : List ℕ) (a : Sound) : Type 0 where
+  pub words : List Token
   pub program : Program
   pub walked : Unwound
+  pub short : length text ≤ 8192
+  pub spelled : wordsOf text ≡ given words
+  pub read : programOf words ≡ given program
   pub declared : N.declarationFaults [] 0 (program .declared) ≡ []
   pub named : N.statementFaults (variablesOf (program .declared)) (program .body) [] ≡ []
   pub typed : T.statementFaults (variablesOf (program .declared)) (program .body) [] (some DINT) ≡ []
   pub walk : unwoundProgram program ≡ given walked
   pub is : soundOf program walked ≡ a
 
-pub accepted : (text : List ℕ) (a : Sound) → judge text ≡ given a → Accepted a
+pub accepted : (text : List ℕ) (a : Sound) → judge text ≡ given a → Accepted text a
 unfolding judge nameFaults typeFaults
 accepted text a h =
     let walk : Program → Answer Sound = λ pr. unwoundProgram pr >>= λ u. given (soundOf pr u) in
@@ -70,8 +85,12 @@ accepted text a h =
     let names = no-fault (N.declarationFaults [] 0 (pr .declared)) (N.statementFaults vs (pr .body) []) (faultless-none BadName (nameFaults pr) n hn) in
     let types = no-fault (T.declarationFaults (pr .declared)) (T.statementFaults vs (pr .body) [] (some DINT)) (faultless-none BadType (typeFaults pr) t hy) in
     record {
+      words = ts;
       program = pr;
       walked = u;
+      short = short-text text s hs;
+      spelled = ht;
+      read = hp;
       declared = names .0;
       named = names .1;
       typed = types .1;

@@ -163,6 +163,13 @@ unfolding cellsOf placed total
 cells-total k [] = refl
 cells-total k (d ∷ ds) = simp (length-append, length-replicate, cells-total (k + sizeOf (d .bounds)) ds)
 
+-- a variable that is found ends among them
+found-inside : (n : Name) (v : Variable) (k : ℕ) (ds : List Declared) → Found n v k ds → v .first + sizeOf (v .declared .bounds) ≤ k + total ds
+unfolding total
+found-inside n v k [] f = absurd f
+found-inside n v k (d ∷ ds) (inl f) = let lies = placed-first v k d (f .1) in omega arith
+found-inside n v k (d ∷ ds) (inr f) = omega (arith, found-inside n v (k + sizeOf (d .bounds)) ds f)
+
 -- of the three kinds, a declaration has one
 one-kind : (x : Kind) (s : ℕ) → cond (sameKind Input x) s 0 + cond (sameKind Output x) s 0 + cond (sameKind Other x) s 0 ≡ s
 one-kind Input s = omega arith
@@ -209,6 +216,12 @@ module _ (ds : List Declared) where
       → (c : Cell) → CellOf v c → getElem? (cellsOf (variablesOf ds)) (c .0) ≡ some (infoOf v)
   unfolding variablesOf
   find-info n v f c h = found-info n v 0 (printed ds) (found n v 0 (printed ds) f) (c .0) (h .at) (h .inside) (omega (arith, h .is))
+
+  -- the cells of a variable are among all
+  pub find-inside : (n : Name) (v : Variable) → find n (variablesOf ds) ≡ some v
+      → v .first + sizeOf (v .declared .bounds) ≤ length (cellsOf (variablesOf ds))
+  unfolding variablesOf
+  find-inside n v f = omega (arith, found-inside n v 0 (printed ds) (found n v 0 (printed ds) f), cells-total 0 (printed ds))
 
   -- cells of variables with different names are apart
   pub find-apart : (m n : Name) (v w : Variable) → find m (variablesOf ds) ≡ some v → find n (variablesOf ds) ≡ some w

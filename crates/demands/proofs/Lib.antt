@@ -24,3 +24,5 @@ pub mod Lent
 pub mod Rule11
 pub mod Accepted
 pub mod Theorem
+pub mod ShortNames
+pub mod Prints

@@ -3,7 +3,7 @@ use mathlib.Core.Path.{_≡_, refl, sym, ap, _∙_, subst}
 use mathlib.Core.Bool.{Bool, true, false, cond, true≢false}
 use mathlib.Core.Option.{some}
 use mathlib.Core.List.{List, [], _∷_, map}
-use Prim.Native.Nat.{_≤_}
+use Prim.Native.Nat.{ℕ, _≤_}
 use native.Mathlib.Omega.{arith}
 use lib.IntN.{pos}
 use lib.ListN.{length, replicate, length-replicate}
@@ -22,12 +22,12 @@ use Rattle.demands.proofs.Typed.{WellTyped}
 use Rattle.demands.proofs.Cells.{few-cells}
 use Rattle.demands.proofs.PlainRuns.{run-steps, run-in-types}
 use Rattle.demands.proofs.Expressions.{Agree}
-use Rattle.demands.proofs.Means.{none-selected}
+use Rattle.demands.proofs.Means.{Means, none-selected}
 use Rattle.demands.proofs.Statements.{none-selects, unwinds}
 use Rattle.demands.proofs.TreeRuns.{expressions-run}
 use Rattle.demands.proofs.Rows.{table-runs, table-few}
 use Rattle.demands.proofs.Rule11.{ReadsBack, table-keeps}
-use Rattle.demands.proofs.Accepted.{soundOf, accepted}
+use Rattle.demands.proofs.Accepted.{soundOf, Accepted, accepted}
 
 -- ---- states
 
@@ -154,19 +154,27 @@ none-agree : (ds : List Declared) (env s : State) → Agree (variablesOf ds) [] 
 unfolding isAmong
 none-agree ds env s n c a e = absurd (true≢false (sym a))
 
-pub demand-3 : Demand3ForAll
+-- an accepted text, and what its walk gave
+pub walk-means : (text : List ℕ) (a : Sound) (k : Accepted text a)
+    → let ds = k .program .declared in
+    Means ds [] (replicate (length (cellsOf (variablesOf ds))) 0) noSelector (pos 0) (M.run (variablesOf ds) (k .program .body) (pos 0)) 0 (k .walked)
 unfolding unwoundProgram
+walk-means text a k =
+    let pr = k .program in
+    let ds = pr .declared in
+    let n = length (cellsOf (variablesOf ds)) in
+    unwinds ds (pr .body) [] (replicate n 0) noSelector (pos 0) 0 (k .walked) (none-selects ds) (length-replicate n 0)
+    (record { named = k .named; typed = k .typed; walk = k .walk })
+
+pub demand-3 : Demand3ForAll
 demand-3 text a h s hs xs hx =
     let k = accepted text a h in
     let pr = k .program in
     let ds = pr .declared in
-    let is = cellsOf (variablesOf ds) in
-    let env : State = replicate (length is) 0 in
-    let means = unwinds ds (pr .body) [] env noSelector (pos 0) 0 (k .walked) (none-selects ds) (length-replicate (length is) 0)
-    (record { named = k .named; typed = k .typed; walk = k .walk }) in
+    let means = walk-means text a k in
     subst (λ (b : Sound). (s : State) → InTypes (b .cells) s → (xs : List State) → All (ReadingsIn (b .cells)) xs → Demand3 b s xs) (k .is)
     (holds pr (k .walked)
-    (λ r l. means .same r l (none-agree ds env (r .state)) (none-selected (r .state)))
+    (λ r l. means .same r l (none-agree ds (replicate (length (cellsOf (variablesOf ds))) 0) (r .state)) (none-selected (r .state)))
     (means .typed)
     (means .weighed ∙ omega arith)
     (means .light (omega arith))

@@ -7,9 +7,8 @@ use Prim.Native.String.{String}
 use native.Mathlib.Omega.{arith}
 use native.Mathlib.Numerals.{add-one}
 use lib.ListN.{length}
-use Rattle.paper.specs.declared.Why.{Why}
-use Rattle.paper.specs.declared.Why.the-variants.{TooLong, NoWord, BadShape, TooDeep, BadName, BadType, TooHigh, BadWalk, TooHeavy, NoRoom, BadTable, BadValue}
 use Rattle.paper.specs.Refusals.{Answer, refused, given, numberOf, _>>=_}
+use Rattle.paper.proofs.Whys.{code-pos}
 use Rattle.paper.specs.Words.{Token}
 use Rattle.paper.specs.Source.{Expr}
 use Rattle.paper.specs.Reading as R
@@ -17,21 +16,6 @@ use Rattle.paper.specs.Reading.{Read, ok}
 use Rattle.words.specs.Denoted.{wordsAt}
 use Rattle.expressions.specs.declared.Parsed.{Parsed}
 use Rattle.expressions.specs.Reads.{Answered, Runs, Passed, KeyIs, ExpectDid}
-
--- no refusal has the number 0
-pub code-pos : (w : Why) → numberOf w ≡ 0 → ⊥
-code-pos TooLong e = omega arith
-code-pos NoWord e = omega arith
-code-pos BadShape e = omega arith
-code-pos TooDeep e = omega arith
-code-pos BadName e = omega arith
-code-pos BadType e = omega arith
-code-pos TooHigh e = omega arith
-code-pos BadWalk e = omega arith
-code-pos TooHeavy e = omega arith
-code-pos NoRoom e = omega arith
-code-pos BadTable e = omega arith
-code-pos BadValue e = omega arith
 
 module _ {A : Type 0} (D : ℕ → A) (t : List ℕ) (e n : ℕ) where
   -- an answer about fewer words is one about more

@@ -262,15 +262,16 @@ module _ (p : List ℕ) where
       let none : Filled = record { count = 0; cells = 0 } in
       let two-kinds = fills-then old one two none a b _ _ (λ t. ofKind Input (declaredAt t p d) ++ ofKind Output (declaredAt t p d)) same (λ t. refl) (x Input refl) (y Output refl) in
       let all = fills-then old two new none b r _ _ (λ t. printed (declaredAt t p d)) (like ∙ same) (λ t. refl) two-kinds (z Other refl) in
+      let start : (t : List ℕ) → Celled t p old none = λ t. record { firsts = λ k l. absurd (omega arith); next = refl } in
       record {
         listed = all .listed;
         firsts = λ t k l.
             let ds = printed (declaredAt t p d) in
             let room = length old / 4 in
             let n = sym (entries-length t p new (r .count)) ∙ ap length (all .listed t) ∙ length-take room ds in
-            let start : Celled t p old none = record { firsts = λ k l. absurd (omega arith); next = refl } in
-            all .celled t start .firsts k l
+            all .celled t (start t) .firsts k l
             ∙ ap (λ xs. cellsWith 0 xs % 65536)
             (sym (entries-take t p new (r .count) k (omega arith)) ∙ ap (take k) (all .listed t) ∙ take-take k room ds (omega (arith, n)))
             ∙ ap (λ c. c % 65536) (sym (first-at 0 ds k (omega (arith, n))));
+        cells = λ t. all .celled t (start t) .next;
       }

@@ -2,14 +2,14 @@
 use mathlib.Core.Path.{_≡_, refl, ap, _∙_}
 use mathlib.Core.Bool.{cond}
 use mathlib.Core.List.{List, [], _∷_}
-use Prim.Native.Nat.{ℕ, suc, _+_, _*_, _/_, _≤_}
+use Prim.Native.Nat.{ℕ, suc, _+_, _*_, _/_, _%_, _≤_}
 use native.Mathlib.Omega.{arith}
 use lib.ListN.{length, take, length-append}
 use lib.Seq.{length-take-le, getD-take, take-all}
 use Rattle.paper.specs.declared.Kind.{Kind}
 use Rattle.paper.specs.declared.Kind.the-variants.{Input, Output, Other}
 use Rattle.paper.specs.Source.{Declared, done}
-use Rattle.paper.specs.Names.{sameKind, ofKind, printed, placed, variablesOf, declarationFaults, statementFaults, nameFaults}
+use Rattle.paper.specs.Names.{sameKind, ofKind, printed, placed, variablesOf, cellsOf, declarationFaults, statementFaults, nameFaults}
 use Rattle.faults.specs.Soonest.{soonest}
 use Rattle.tree.specs.Nodes.{childOf}
 use Rattle.tree.specs.Trees.{declaredAt, frontAt, programAt}
@@ -17,11 +17,12 @@ use Rattle.variables.specs.Table.{entries, variablesIn, namesTo}
 use Rattle.names.specs.declared.declared.Seen.{Seen}
 use Rattle.names.specs.declared.table.Filled.{Filled}
 use Rattle.names.specs.Walks.{after, statementsAt}
-use Rattle.names.specs.Declares.{DeclaresAll}
+use Rattle.names.specs.Declares.{cellsWith, DeclaresAll}
 use Rattle.names.specs.Fills.{FillsAll}
 use Rattle.names.specs.Judged.{Judges, Judged}
 use Rattle.names.proofs.After.{then}
 use Rattle.names.proofs.Filling.{entries-kept}
+use Rattle.names.proofs.Listed.{cells-all}
 
 -- ---- every declaration is of one kind
 
@@ -65,7 +66,11 @@ module _ (t p old new scratch places : List ℕ) (root d b first : ℕ) (f : Fil
         ∙ ap (placed 0)
         (entries-kept t p (f .count) new (take (4 * f .count) new) (λ k l. getD-take (4 * f .count) new k 0 l) ∙ all-listed)
 
-    judges : Judges t p new (programAt t p root) (record { first = first; count = f .count })
+    celled : f .cells ≡ length (cellsOf (variablesOf ds)) % 65536
+    unfolding variablesOf
+    celled = fills .cells t ∙ ap (λ n. n % 65536) (ap (cellsWith 0) all-listed ∙ omega (arith, cells-all 0 (printed ds)))
+
+    judges : Judges t p new (programAt t p root) (record { first = first; count = f .count; cells = f .cells })
     unfolding programAt variablesOf nameFaults after namesTo
     judges =
         rw (← e, ← g)
@@ -78,8 +83,9 @@ module _ (t p old new scratch places : List ℕ) (root d b first : ℕ) (f : Fil
           variables = ap (placed 0) all-listed;
           part = in-part;
           firsts = fills .firsts t;
+          cells = celled;
         }
 
-  pub judged : Judged t p old new (length scratch) root (record { first = first; count = f .count })
+  pub judged : Judged t p old new (length scratch) root (record { first = first; count = f .count; cells = f .cells })
   unfolding programAt
   judged = record { most = omega arith; judges = λ l m. judges (rw e l) (rw e m) }

@@ -6,5 +6,5 @@ pub mod Fronts
 pub mod Nodes
 pub mod Declaring
 pub mod Filling
-pub mod Judging
 pub mod Listed
+pub mod Judging

@@ -42,7 +42,7 @@ cells-before m ds zero = cells-grow m ds
 cells-before m [] (suc k) = omega arith
 cells-before m (d ∷ ds) (suc k) = cells-before (m + sizeOf (d .bounds)) ds k
 
-cells-all : (m : ℕ) (ds : List Declared) → cellsWith m ds ≡ m + length (cellsOf (placed m ds))
+pub cells-all : (m : ℕ) (ds : List Declared) → cellsWith m ds ≡ m + length (cellsOf (placed m ds))
 unfolding cellsWith placed cellsOf
 cells-all m [] = omega arith
 cells-all m (d ∷ ds) =

@@ -49,3 +49,4 @@ firstsOf vs = map (λ v. v .first) vs
 pub record FillsAll (p old new : List ℕ) (d : ℕ) (r : Filled) : Type 0 where
   pub listed : (t : List ℕ) → entries t p new (r .count) ≡ take (length old / 4) (printed (declaredAt t p d))
   pub firsts : (t : List ℕ) (k : ℕ) → k < r .count → wordOf new k 2 ≡ getD (firstsOf (placed 0 (printed (declaredAt t p d)))) k 0 % 65536
+  pub cells : (t : List ℕ) → r .cells ≡ cellsWith 0 (entries t p new (r .count)) % 65536

@@ -4,7 +4,7 @@ use mathlib.Core.List.{List}
 use Prim.Native.Nat.{ℕ, _*_, _/_, _%_, _≤_, _<_}
 use lib.ListN.{length, getD, take}
 use Rattle.paper.specs.Source.{Program}
-use Rattle.paper.specs.Names.{placed, variablesOf, nameFaults}
+use Rattle.paper.specs.Names.{placed, variablesOf, cellsOf, nameFaults}
 use Rattle.faults.specs.Soonest.{soonest}
 use Rattle.tree.specs.Nodes.{wordOf}
 use Rattle.tree.specs.Trees.{programAt}
@@ -19,6 +19,7 @@ pub record Judges (t p tab : List ℕ) (pr : Program) (r : Named) : Type 0 where
   -- the part of the table that the variables fill
   pub part : variablesIn t p (take (4 * r .count) tab) ≡ variablesOf (pr .declared)
   pub firsts : (k : ℕ) → k < r .count → wordOf tab k 2 ≡ getD (firstsOf (variablesOf (pr .declared))) k 0 % 65536
+  pub cells : r .cells ≡ length (cellsOf (variablesOf (pr .declared))) % 65536
 
 -- the table is `old` before and `new` after, and `room` names can be kept
 pub record Judged (t p old new : List ℕ) (room root : ℕ) (r : Named) : Type 0 where

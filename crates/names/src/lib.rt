@@ -9,10 +9,11 @@ mod body;
 mod declared;
 mod table;
 
-// One more than the place of the soonest fault, 0 where there is none, and how many variables the table has.
+// One more than the place of the soonest fault, 0 where there is none; how many variables the table has, and their cells, modulo 65536.
 pub struct Named {
     pub first: usize,
     pub count: usize,
+    pub cells: u16,
 }
 
 // Refusal 5 of the program at `root`, and the table of its variables. `scratch` serves for the names seen, then for the FORs around.
@@ -38,5 +39,9 @@ pub fn first_bad_name(
     let end = 4 * count;
     let b = child(pool, root, 2);
     let first = body::statements(text, pool, &table[..end], scratch, 0, b, seen.best);
-    Named { first, count }
+    Named {
+        first,
+        count,
+        cells: filled.cells,
+    }
 }

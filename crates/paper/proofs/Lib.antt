@@ -3,3 +3,4 @@ pub mod Runs
 pub mod Results
 pub mod Tempting
 pub mod Counts
+pub mod Whys

@@ -1,5 +1,7 @@
 -- The numbers that answer a refusal, and what every stage answers.
-use Prim.Native.Nat.{ℕ}
+use mathlib.Core.List.{List, [], _∷_}
+use Prim.Native.Nat.{ℕ, _-_}
+use lib.ListN.{getD}
 use Rattle.paper.specs.declared.Why.{Why}
 use Rattle.paper.specs.declared.Why.the-variants.{TooLong, NoWord, BadShape, TooDeep, BadName, BadType, TooHigh, BadWalk, TooHeavy, NoRoom, BadTable, BadValue}
 
@@ -16,6 +18,13 @@ numberOf TooHeavy = 9
 numberOf NoRoom = 10
 numberOf BadTable = 11
 numberOf BadValue = 12
+
+-- a refusal by its number
+abbrev pub whys : List Why
+whys = TooLong ∷ NoWord ∷ BadShape ∷ TooDeep ∷ BadName ∷ BadType ∷ TooHigh ∷ BadWalk ∷ TooHeavy ∷ NoRoom ∷ BadTable ∷ BadValue ∷ []
+
+abbrev pub whyOf : ℕ → Why
+whyOf n = getD whys (n - 1) BadValue
 
 -- a refusal with its place, or what was asked for
 pub data Answer (A : Type 0) : Type 0 where

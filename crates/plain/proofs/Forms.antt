@@ -19,7 +19,7 @@ use Rattle.plain.proofs.Frames.{expr-form, expr-same, front-form, list-
 
 -- ---- the form of a kind
 
-number-form : (k : ℕ) → 0 < k → k < 3 → getD exprForms k nilForm ≡ numberForm
+pub number-form : (k : ℕ) → 0 < k → k < 3 → getD exprForms k nilForm ≡ numberForm
 unfolding exprForms
 number-form zero s l = absurd (omega arith)
 number-form (suc zero) s l = refl
@@ -31,7 +31,7 @@ unfolding exprForms
 truth-form true = refl
 truth-form false = refl
 
-binary-form : (o : ℕ) → o < 14 → getD exprForms (11 + o) nilForm ≡ binaryForm (getD operators o Or)
+pub binary-form : (o : ℕ) → o < 14 → getD exprForms (11 + o) nilForm ≡ binaryForm (getD operators o Or)
 unfolding exprForms
 binary-form o l =
     getD-append-add (take 11 exprForms) (map binaryForm operators) o nilForm ∙ map-at binaryForm operators o _ Or l

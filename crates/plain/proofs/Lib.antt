@@ -1,5 +1,6 @@
 pub mod Frames
 pub mod Forms
+pub mod Exprs
 pub mod Lists
 mod Figures
-mod Markings
+pub mod Markings

@@ -81,17 +81,22 @@ unfolding count
 count-same f g zero h = refl
 count-same f g (suc n) h = ap₂ (λ b k. cond b 1 0 + k) (h n (omega arith)) (count-same f g n (λ c l. h c (omega arith)))
 
--- what two lists mark, of marks that were 0
-pub cells-marked : (s t : Stmts) (old mid new : List ℕ) (n : ℕ) → Marks s old mid → Marks t mid new → n ≤ length old
-    → ((c : ℕ) → c < n → getD old c 0 ≡ 0) → count (isMarked new) n ≡ cellsWithin n s t
-unfolding cellsWithin
-cells-marked s t old mid new n x y l z =
-    count-same (isMarked new) (λ c. assigns s c || assigns t c) n (λ c h.
-    ap (λ v. ltb 0 v) (y .each c (omega (arith, x .kept)) ∙ ap (cond (assigns t c) 1) (x .each c (omega arith) ∙ ap (cond (assigns s c) 1) (z c h)))
-    ∙ go (assigns s c) (assigns t c))
+-- a cell that two lists mark, of marks that were 0
+pub cell-marked : (s t : Stmts) (old mid new : List ℕ) → Marks s old mid → Marks t mid new → (c : ℕ) → c < length old → getD old c 0 ≡ 0
+    → isMarked new c ≡ assigns s c || assigns t c
+cell-marked s t old mid new x y c l z =
+    ap (λ v. ltb 0 v) (y .each c (omega (arith, x .kept)) ∙ ap (cond (assigns t c) 1) (x .each c l ∙ ap (cond (assigns s c) 1) z))
+    ∙ go (assigns s c) (assigns t c)
   where
     go : (a b : Bool) → ltb 0 (cond b 1 (cond a 1 0)) ≡ a || b
     go true true = refl
     go true false = refl
     go false true = refl
     go false false = refl
+
+-- how many there are
+pub cells-marked : (s t : Stmts) (old mid new : List ℕ) (n : ℕ) → Marks s old mid → Marks t mid new → n ≤ length old
+    → ((c : ℕ) → c < n → getD old c 0 ≡ 0) → count (isMarked new) n ≡ cellsWithin n s t
+unfolding cellsWithin
+cells-marked s t old mid new n x y l z =
+    count-same (isMarked new) (λ c. assigns s c || assigns t c) n (λ c h. cell-marked s t old mid new x y c (omega arith) (z c h))

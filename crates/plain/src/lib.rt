@@ -32,14 +32,15 @@ pub fn figure_of(pool: &[u16], i: usize) -> usize
     0
 }
 
-fn capped(n: usize) -> usize
+// 65535 standing for more.
+pub fn capped(n: usize) -> usize
     ensures { λ r. ⌜ r ≡ min 65535 n ⌝ }
 {
     if n < 65535 { n } else { 65535 }
 }
 
 // Marks the cells that a list assigns.
-fn mark(pool: &[u16], i: usize, marks: &mut [u8])
+pub fn mark(pool: &[u16], i: usize, marks: &mut [u8])
     requires { ⌜ 4 * i + 4 ≤ length (now pool) ⌝ }
     ensures { λ _. ⌜ Marks (listAt (now (pool .entry)) i) (now (marks .entry)) (now (marks .exit)) ⌝ }
 {

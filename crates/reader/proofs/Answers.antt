@@ -20,7 +20,8 @@ use Rattle.tree.specs.Nodes.{Same}
 use Rattle.expressions.specs.declared.Parsed.{Parsed}
 use Rattle.expressions.specs.Reads.{Answered, Did, Passed, KeyIs, ExpectDid, Room}
 use Rattle.expressions.proofs.Tokens.{Next, next-of}
-use Rattle.expressions.proofs.Answers.{code-pos, pass-bad, pass-good, expect-one}
+use Rattle.paper.proofs.Whys.{code-pos}
+use Rattle.expressions.proofs.Answers.{pass-bad, pass-good, expect-one}
 
 module _ {A : Type 0} (D : ℕ → A) (t : List ℕ) (e n : ℕ) where
   -- the last part, whose own function says through g what is said here through k and h

@@ -20,7 +20,8 @@ use Rattle.tree.specs.Trees.{nameAt, programAt}
 use Rattle.expressions.specs.declared.Parsed.{Parsed}
 use Rattle.expressions.specs.Reads.{Answered, Passed, ExpectDid}
 use Rattle.expressions.proofs.Tokens.{next-of, name-here, name-class, ending-class, key-program}
-use Rattle.expressions.proofs.Answers.{code-pos, expect-one}
+use Rattle.paper.proofs.Whys.{code-pos}
+use Rattle.expressions.proofs.Answers.{expect-one}
 use Rattle.reader.specs.Declarations.{bodyOf, BodyDid, IsReading, ProgramDid}
 use Rattle.statements.proofs.Runs.{assoc}
 use Rattle.reader.proofs.Answers.{taken-none, taken-some}

@@ -7,9 +7,9 @@ use native.Mathlib.Omega.{arith}
 use borrow.Author.Tests.{le-leb, lt-leb}
 use lib.Dec.{leb}
 use lib.ListN.{length}
-use Rattle.paper.specs.declared.Why.{Why}
-use Rattle.paper.specs.declared.Why.the-variants.{TooLong, NoWord, BadShape, TooDeep, BadName, BadType, TooHigh, BadWalk, TooHeavy, NoRoom, BadTable, BadValue}
+use Rattle.paper.specs.declared.Why.the-variants.{TooLong, NoWord}
 use Rattle.paper.specs.Refusals.{Answer, refused, given, numberOf, _>>=_}
+use Rattle.paper.proofs.Whys.{code-pos}
 use Rattle.paper.specs.Words.{Token, wordsOf}
 use Rattle.paper.specs.Source.{Program}
 use Rattle.paper.specs.Reading.{programOf}
@@ -17,21 +17,6 @@ use Rattle.expressions.specs.declared.Parsed.{Parsed}
 use Rattle.reader.specs.Declarations.{IsReading, ProgramDid}
 use Rattle.shaped.specs.declared.Shape.{Shape}
 use Rattle.shaped.specs.Shapes.{IsShape, ShapeDid}
-
--- no refusal has the number 0
-pub numbered : (w : Why) → numberOf w ≡ 0 → ⊥
-numbered TooLong h = absurd (omega arith)
-numbered NoWord h = absurd (omega arith)
-numbered BadShape h = absurd (omega arith)
-numbered TooDeep h = absurd (omega arith)
-numbered BadName h = absurd (omega arith)
-numbered BadType h = absurd (omega arith)
-numbered TooHigh h = absurd (omega arith)
-numbered BadWalk h = absurd (omega arith)
-numbered TooHeavy h = absurd (omega arith)
-numbered NoRoom h = absurd (omega arith)
-numbered BadTable h = absurd (omega arith)
-numbered BadValue h = absurd (omega arith)
 
 -- ---- 1
 
@@ -63,7 +48,7 @@ no-word t p q h e = short t p _ h (omega arith) (rw e (refl, refl))
 
 -- reading's answer, by its code
 well : (t new : List ℕ) (a : Answer Program) (r : Parsed) → IsReading t new a r → r .code ≡ 0 → IsShape t new a (record { number = 0; place = 0; root = r .root })
-well t new (refused w q) r i h = absurd (numbered w (sym (i .0) ∙ h))
+well t new (refused w q) r i h = absurd (code-pos w (sym (i .0) ∙ h))
 well t new (given x) r i h = (refl, refl, i .1)
 
 ill : (t new : List ℕ) (a : Answer Program) (r : Parsed) → IsReading t new a r → (r .code ≡ 0 → ⊥) → IsShape t new a (noRoot (r .code) (r .at))

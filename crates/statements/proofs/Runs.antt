@@ -12,7 +12,8 @@ use Rattle.paper.specs.Reading.{Read, ok}
 use Rattle.words.specs.Denoted.{wordsAt}
 use Rattle.expressions.specs.declared.Parsed.{Parsed}
 use Rattle.expressions.specs.Reads.{Answered, Runs, KeyIs, ExpectDid}
-use Rattle.expressions.proofs.Answers.{code-pos, weaken, done, bind-bad, bind-good, pass-bad, pass-good, expect-one}
+use Rattle.paper.proofs.Whys.{code-pos}
+use Rattle.expressions.proofs.Answers.{weaken, done, bind-bad, bind-good, pass-bad, pass-good, expect-one}
 
 -- one stage after another, however they are grouped
 pub assoc : {A B C : Type 0} (s : Answer A) (f : A → Answer B) (g : B → Answer C) → ((s >>= f) >>= g) ≡ (s >>= λ x. (f x >>= g))

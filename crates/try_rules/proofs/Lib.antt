@@ -1,3 +1,1 @@
 pub mod Ruling
-pub mod Judging
-pub mod Firsts

@@ -29,20 +29,20 @@ lengths c = rw (c .before .l .given .1) at (c .before .before .before .before .b
 array-share-prefix-text : tie.Need-array-share-prefix-text
 array-share-prefix-text c = lengths c .0 .0
 
-slice-aggregate-judge : tie.Need-slice-aggregate-judge
-slice-aggregate-judge c = lengths (c .before) .0 .1
+slice-aggregate-rules : tie.Need-slice-aggregate-rules
+slice-aggregate-rules c = lengths (c .before) .0 .1
 
-slice-aggregate-judge-2 : tie.Need-slice-aggregate-judge-2
-slice-aggregate-judge-2 c = search needs
+slice-aggregate-rules-2 : tie.Need-slice-aggregate-rules-2
+slice-aggregate-rules-2 c = search needs
 
-slice-aggregate-judge-3 : tie.Need-slice-aggregate-judge-3
-slice-aggregate-judge-3 c = search needs
+slice-aggregate-rules-3 : tie.Need-slice-aggregate-rules-3
+slice-aggregate-rules-3 c = search needs
 
-slice-aggregate-judge-4 : tie.Need-slice-aggregate-judge-4
-slice-aggregate-judge-4 c = search needs
+slice-aggregate-rules-4 : tie.Need-slice-aggregate-rules-4
+slice-aggregate-rules-4 c = search needs
 
-judge-requires : tie.Need-judge-requires
-judge-requires c κs = search needs
+rules-requires : tie.Need-rules-requires
+rules-requires c κs = search needs
 
 array-share-prefix-expected : tie.Need-array-share-prefix-expected
 array-share-prefix-expected c = lengths (c .before .before .before .before .before .before .before .before) .1 .0
@@ -98,11 +98,11 @@ one-more-spec =
     next-record-requires
     enum-known-l
     array-share-prefix-text
-    slice-aggregate-judge
-    slice-aggregate-judge-2
-    slice-aggregate-judge-3
-    slice-aggregate-judge-4
-    judge-requires
+    slice-aggregate-rules
+    slice-aggregate-rules-2
+    slice-aggregate-rules-3
+    slice-aggregate-rules-4
+    rules-requires
     array-share-prefix-expected
     slice-aggregate-wanted
     wanted-requires

@@ -1,0 +1,4 @@
+pub mod Pours
+pub mod Infos
+pub mod Values
+mod Variables

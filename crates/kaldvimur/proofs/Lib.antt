@@ -1,0 +1,5 @@
+pub mod Orders
+pub mod Standing
+pub mod Whys
+pub mod Answers
+pub mod Fits

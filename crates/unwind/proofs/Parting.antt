@@ -1,0 +1,165 @@
+-- The plain form of a node, written behind those of its children.
+use mathlib.Core.Path.{_≡_, refl, sym, ap, ap₂, subst, _∙_}
+use mathlib.Core.Bool.{Bool, true, false, cond}
+use mathlib.Core.Option.{none, some}
+use mathlib.Core.List.{List}
+use Prim.Native.Nat.{ℕ, zero, suc, _+_, _*_, _-_, _/_, _%_, _≤_, _<_}
+use native.Mathlib.Omega.{arith}
+use borrow.Author.Tests.{eqb-true, eqb-false, ne-eqb}
+use lib.Dec.{eqb}
+use lib.ListN.{length, getD}
+use Rattle.paper.specs.declared.Ty.{Ty}
+use Rattle.paper.specs.declared.Ty.the-variants.{Bool as BOOL, Dint as DINT}
+use Rattle.paper.specs.declared.Op.the-variants.{Or}
+use Rattle.paper.specs.declared.Cell.{Cell}
+use Rattle.paper.specs.declared.Why.the-variants.{BadWalk}
+use Rattle.paper.specs.Refusals.{Answer, refused, given, _>>=_}
+use Rattle.paper.specs.Types.{tag}
+use Rattle.paper.specs.Names.{Variable}
+use Rattle.paper.specs.Typing.{typeIn, operandType}
+use Rattle.paper.specs.Plain.{Expr, State, parts, number, read, minus, complement, binary, conversion}
+use Rattle.paper.specs.Meaning.{cellOf}
+use Rattle.paper.specs.Unwinding.{bracketOf, cellIn, plainOf}
+use Rattle.tree.specs.Nodes.{wordOf, kindOf, childOf, written}
+use Rattle.tree.specs.Trees.{types, operators, wholeAt, exprAt}
+use Rattle.variables.specs.Table.{listedIn}
+use Rattle.plain.specs.Flat as F
+use Rattle.plain.proofs.Forms.{put-copied, put-minus, put-complement, put-conversion, put-binary}
+use Rattle.unwind.specs.declared.parts.Part.{Part}
+use Rattle.unwind.specs.Parts.{Holds, Inside, Parted, PartDid, PlainDid, ReadDid, NoCell, Wrapped, offeredAt}
+use Rattle.constants.proofs.Nodes.{kind-some, first, second}
+use Rattle.unwind.proofs.Emits.{type-tag, stopped, one-did, two-did}
+use Rattle.unwind.proofs.Exprs.{minus-plain, complement-plain, brackets-plain, conversion-plain, binary-plain}
+use Rattle.unwind.proofs.Insides.{cell-inside, cell-refused}
+
+-- another answer that is the same
+pub did-as : (vs : List Variable) (size : ℕ) (old new : List ℕ) (n : ℕ) (o q : Answer Expr) (r : Part) → q ≡ o
+    → PartDid vs size old new n o r → PartDid vs size old new n q r
+did-as vs size old new n o q r e d = subst (λ o. PartDid vs size old new n o r) (sym e) d
+
+-- ---- a cell that is not there, or beyond the end
+
+module _ (t p tab : List ℕ) (env : State) (i : ℕ) (old : List ℕ) (n : ℕ) (r : Part) (h : NoCell p i n r) (room : Holds old n) where
+  no-did : (Inside (length env) (listedIn t p tab) → none ≡ cellOf (listedIn t p tab) env (exprAt t p i)) → ReadDid t p tab env i old old n r
+  no-did none-there =
+      record {
+        more = omega (arith, h .count);
+        holds = omega (arith, h .count);
+        long = refl;
+        same = λ j s. refl;
+        small = omega (arith, h .parts);
+        own = refused BadWalk (bracketOf (exprAt t p i));
+        parted = (h .code, h .at t);
+        is = λ ins. sym (ap (λ o. o >>= λ c. given (read c)) (cell-refused (listedIn t p tab) env (exprAt t p i) (none-there ins)));
+      }
+
+  pub none-did : none ≡ cellOf (listedIn t p tab) env (exprAt t p i) → ReadDid t p tab env i old old n r
+  none-did e = no-did (λ ins. e)
+
+  pub beyond-did : (c : ℕ) → some (record { 0 = c }) ≡ cellOf (listedIn t p tab) env (exprAt t p i) → length env ≤ c → ReadDid t p tab env i old old n r
+  beyond-did c e l =
+      no-did (λ ins. absurd (omega (arith, cell-inside (listedIn t p tab) (length env) ins (record { 0 = c }) env (exprAt t p i) (sym e))))
+
+-- ---- one operand
+
+module _ (t p tab : List ℕ) (env : State) (u : Ty) (i : ℕ) (old mid : List ℕ) (n k a w : ℕ) (v : Ty) (x : Part) (ek : kindOf p i ≡ k)
+    (ea : a ≡ childOf p i 1) (ew : w ≡ wordOf p i 2) (ev : v ≡ offeredAt k w u) (d : PlainDid t p tab env v a old mid n x) where
+  abbrev vs : List Variable
+  vs = listedIn t p tab
+
+  -- the type offered, by the kind
+  at-kind : (m : ℕ) → k ≡ m → offeredAt m w u ≡ v
+  at-kind m e = sym (ev ∙ ap (λ k. offeredAt k w u) e)
+
+  pub brackets-did : k ≡ 9 → PlainDid t p tab env u i old mid n x
+  brackets-did e =
+      did-as vs (length env) old mid n _ _ x
+      (brackets-plain t p i k ek vs env u e ∙ ap₂ (λ v j. plainOf vs env v (exprAt t p j)) (at-kind 9 e) (sym ea)) d
+
+  module _ (new : List ℕ) (c : ℕ) (r : Part) (ec : c ≡ tag (typeIn (listedIn t p tab) u (exprAt t p a)))
+      (wr : Wrapped mid new k (x .count) w c (x .parts + 1) x r) where
+    wrapped-as : (m : ℕ) (g : Expr → Expr) → k ≡ m → ((e : Expr) → parts (g e) ≡ suc (parts e))
+        → ((j : ℕ) → 0 < j → Holds mid j → x .count < j → F.exprAt (written mid j m (x .count) w c) j ≡ g (F.exprAt mid (x .count)))
+        → plainOf vs env u (exprAt t p i) ≡ (plainOf vs env v (exprAt t p a) >>= λ e. given (g e)) → PlainDid t p tab env u i old new n r
+    wrapped-as m g e s put eq =
+        did-as vs (length env) old new n _ _ r eq
+        (one-did vs (length env) old mid new n m w c x r g s put _ d (subst (λ k. Wrapped mid new k (x .count) w c (x .parts + 1) x r) e wr))
+
+    minus-did : k ≡ 7 → PlainDid t p tab env u i old new n r
+    unfolding parts
+    minus-did e =
+        let ty = typeIn vs u (exprAt t p a) in
+        wrapped-as 7 (minus ty) e (λ e. refl)
+        (λ j s f l. put-minus mid j (x .count) w c s f l ∙ ap (λ q. minus q (F.exprAt mid (x .count))) (ap (λ m. getD types m BOOL) ec ∙ type-tag ty))
+        (minus-plain t p i k ek vs env u e
+        ∙ ap₂ (λ v j. plainOf vs env v (exprAt t p j) >>= λ y. given (minus (typeIn vs u (exprAt t p j)) y)) (at-kind 7 e) (sym ea))
+
+    complement-did : k ≡ 8 → PlainDid t p tab env u i old new n r
+    unfolding parts
+    complement-did e =
+        wrapped-as 8 complement e (λ e. refl) (λ j s f l. put-complement mid j (x .count) w c s f l)
+        (complement-plain t p i k ek vs env u e ∙ ap₂ (λ v j. plainOf vs env v (exprAt t p j) >>= λ y. given (complement y)) (at-kind 8 e) (sym ea))
+
+    conversion-did : k ≡ 10 → PlainDid t p tab env u i old new n r
+    unfolding parts
+    conversion-did e =
+        let g : Expr → Expr = λ y. conversion (getD types (w / 8) BOOL) (getD types (w % 8) BOOL) y in
+        wrapped-as 10 g e (λ e. refl) (λ j s f l. put-conversion mid j (x .count) w c s f l)
+        (conversion-plain t p i k ek vs env u e
+        ∙ ap₂ (λ q j. plainOf vs env (getD types (q / 8) BOOL) (exprAt t p j) >>= λ y. given (conversion (getD types (q / 8) BOOL) (getD types (q % 8) BOOL) y)) (sym ew) (sym ea)
+        ∙ ap (λ v. plainOf vs env v (exprAt t p a) >>= λ y. given (g y)) (at-kind 10 e))
+
+    pub unary-did : 6 < k → k < 11 → (k ≡ 9 → ⊥) → PlainDid t p tab env u i old new n r
+    unary-did l m s = go (eqb k 7) refl (eqb k 8) refl
+      where
+        go : (b : Bool) → eqb k 7 ≡ b → (d : Bool) → eqb k 8 ≡ d → PlainDid t p tab env u i old new n r
+        go true e d f = minus-did (eqb-true k 7 e)
+        go false e true f = complement-did (eqb-true k 8 f)
+        go false e false f =
+            let a : k ≡ 7 → ⊥ = eqb-false k 7 e in
+            let b : k ≡ 8 → ⊥ = eqb-false k 8 f in
+            conversion-did (omega arith)
+
+-- ---- two
+
+module _ (t p tab : List ℕ) (env : State) (u : Ty) (i : ℕ) (old front : List ℕ) (n k a : ℕ) (v : Ty) (x : Part) (ek : kindOf p i ≡ k) (low : 10 < k) (high : k < 25)
+    (ea : a ≡ childOf p i 1)
+    (ev : v ≡ operandType (listedIn t p tab) u (getD operators (kindOf p i - 11) Or) (exprAt t p (childOf p i 1)) (exprAt t p (childOf p i 2)))
+    (d : PlainDid t p tab env v a old front n x) where
+  binary-is : (b : ℕ) → b ≡ childOf p i 2
+      → plainOf (listedIn t p tab) env u (exprAt t p i)
+      ≡ (plainOf (listedIn t p tab) env v (exprAt t p a) >>= λ x. plainOf (listedIn t p tab) env v (exprAt t p b) >>= λ y. given (binary (getD operators (k - 11) Or) v x y))
+  binary-is b eb =
+      let vs = listedIn t p tab in
+      binary-plain t p i k ek vs env u low high v (ev ∙ ap (λ k. operandType vs u (getD operators (k - 11) Or) (first t p i) (second t p i)) ek)
+      ∙ ap₂ (λ a b. plainOf vs env v (exprAt t p a) >>= λ x. plainOf vs env v (exprAt t p b) >>= λ y. given (binary (getD operators (k - 11) Or) v x y)) (sym ea) (sym eb)
+
+  pub binary-stop : (x .code ≡ 0 → ⊥) → PlainDid t p tab env u i old front n x
+  binary-stop non =
+      did-as (listedIn t p tab) (length env) old front n _ _ x (binary-is (childOf p i 2) refl)
+      (stopped (listedIn t p tab) (length env) old front n _ _ x d non)
+
+  pub binary-did : (mid new : List ℕ) (b c : ℕ) (y r : Part) → b ≡ childOf p i 2 → c ≡ tag v → x .code ≡ 0 → PlainDid t p tab env v b front mid (x .count) y
+      → Wrapped mid new k (x .count) (y .count) c (x .parts + y .parts + 1) y r → PlainDid t p tab env u i old new n r
+  unfolding parts
+  binary-did mid new b c y r eb ec z d₂ wr =
+      let o = k - 11 in
+      let e : k ≡ 11 + o = omega arith in
+      did-as (listedIn t p tab) (length env) old new n _ _ r (binary-is b eb)
+      (two-did (listedIn t p tab) (length env) old front mid new n (11 + o) c x y r (binary (getD operators o Or) v) (λ d e. refl)
+      (λ j s f l m.
+      put-binary mid j (x .count) (y .count) c s f o (omega arith) l m
+      ∙ ap (λ q. binary (getD operators o Or) q (F.exprAt mid (x .count)) (F.exprAt mid (y .count))) (ap (λ m. getD types m BOOL) ec ∙ type-tag v))
+      _ _ d z d₂ (subst (λ k. Wrapped mid new k (x .count) (y .count) c (x .parts + y .parts + 1) y r) e wr))
+
+-- ---- a number copied with its type
+
+pub kind-word : (p : List ℕ) (i : ℕ) → 0 < i → wordOf p i 0 ≡ kindOf p i
+kind-word p i l = sym (ap (λ b. cond b 0 (wordOf p i 0)) (ne-eqb i 0 (λ e. omega arith)))
+
+pub put-number-at : (p : List ℕ) (n : ℕ) (q : List ℕ) (i k a b c : ℕ) (t : Ty) → 0 < n → Holds p n → k ≡ kindOf q i → 0 < k → k < 3
+    → a ≡ wordOf q i 1 → b ≡ wordOf q i 2 → c ≡ tag t → F.exprAt (written p n k a b c) n ≡ number t (wholeAt q i)
+put-number-at p n q i k a b c t s f ek l m ea eb ec =
+    let w : wordOf q i 0 ≡ k = kind-word q i (kind-some q i (omega arith)) ∙ sym ek in
+    rw (ek ∙ sym (kind-word q i (kind-some q i (omega arith))), ea, eb, ec)
+    (put-copied p n q i (tag t) s f (omega arith) (omega arith) ∙ ap (λ u. number u (wholeAt q i)) (type-tag t))
