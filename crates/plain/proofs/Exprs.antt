@@ -1,22 +1,23 @@
 -- The expression of a node, by its kind.
 use mathlib.Core.Path.{_≡_, refl, sym, ap, _∙_}
 use mathlib.Core.Bool.{true, false}
-use mathlib.Core.List.{List, map}
-use Prim.Native.Nat.{ℕ, zero, suc, _+_, _-_, _/_, _%_, _≤_, _<_}
+use mathlib.Core.List.{List}
+use Prim.Native.Nat.{ℕ, zero, suc, _+_, _-_, _/_, _%_, _<_}
 use native.Mathlib.Omega.{arith}
 use borrow.Author.Tests.{ne-eqb}
 use lib.Dec.{eqb}
 use lib.ListN.{getD, List·getD-eq-default}
 use Rattle.paper.specs.declared.Ty.the-variants.{Bool as BOOL}
 use Rattle.paper.specs.declared.Op.the-variants.{Or}
-use Rattle.paper.specs.Plain.{Expr, number, truth, read, minus, complement, binary, conversion}
+use Rattle.paper.specs.Plain.{number, truth, read, minus, complement, binary, conversion}
 use Rattle.tree.specs.Nodes.{wordOf, kindOf, childOf}
 use Rattle.tree.specs.Trees.{types, operators, wholeAt}
 use Rattle.plain.specs.Flat.{typeAt, cellAt, ExprForm, nilForm, numberForm, exprForms, exprAt}
 use Rattle.plain.proofs.Frames.{expr-form, expr-nil}
 use Rattle.plain.proofs.Forms.{number-form, binary-form}
 
-by-kind : (q : List ℕ) (i w : ℕ) → w ≡ kindOf q i → exprAt q i ≡ getD exprForms w nilForm q i (exprAt q (childOf q i 1)) (exprAt q (childOf q i 2))
+-- from the form that the kind picks
+pub by-kind : (q : List ℕ) (i w : ℕ) → w ≡ kindOf q i → exprAt q i ≡ getD exprForms w nilForm q i (exprAt q (childOf q i 1)) (exprAt q (childOf q i 2))
 unfolding exprForms
 by-kind q zero w e = expr-nil q ∙ rw e
 by-kind q (suc i) w e =

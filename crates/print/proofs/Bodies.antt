@@ -1,7 +1,7 @@
 -- Expressions and lists, by the kinds of their nodes.
 use mathlib.Core.Path.{_≡_, refl, sym, ap, ap₂, _∙_}
 use mathlib.Core.Bool.{Bool, true, false, cond, _&&_}
-use mathlib.Core.List.{List, [], _∷_, _++_, map, append-assoc}
+use mathlib.Core.List.{List, [], _∷_, _++_, append-assoc}
 use Prim.Native.Nat.{ℕ, zero, suc, _+_, _-_, _/_, _%_, _≤_, _<_}
 use native.Mathlib.Omega.{arith}
 use borrow.Author.Tests.{ne-eqb, ltb-true, ltb-false}
@@ -16,20 +16,12 @@ use Rattle.paper.specs.Plain.{Expr, number, truth, read, minus, complement, bin
 use Rattle.paper.specs.Printing as P
 use Rattle.tree.specs.Nodes.{wordOf, kindOf, childOf}
 use Rattle.tree.specs.Trees.{operators, wholeAt}
-use Rattle.tree.proofs.Forms.{map-at}
-use Rattle.plain.specs.Flat.{ExprForm, nil, nilForm, numberForm, binaryForm, cellAt, exprForms, exprAt, listAt}
-use Rattle.plain.proofs.Frames.{expr-form, expr-nil}
+use Rattle.plain.specs.Flat.{ExprForm, nilForm, exprForms, exprAt, listAt}
+use Rattle.plain.proofs.Exprs as Exprs
 use Rattle.plain.proofs.Lists.{list-nil, list-assign, list-choice, list-both, list-other}
 use Rattle.print.specs.Parts.{operatorOf, converting, opening, closing, isDone, ifEmpty, ifElse}
 
 -- ---- expressions
-
-expr-at : (q : List ℕ) (i w : ℕ) → w ≡ kindOf q i → exprAt q i ≡ getD exprForms w nilForm q i (exprAt q (childOf q i 1)) (exprAt q (childOf q i 2))
-unfolding exprForms
-expr-at q zero w e = expr-nil q ∙ rw e
-expr-at q (suc i) w e =
-    let some : eqb (suc i) 0 ≡ false = ne-eqb (suc i) 0 (λ d. omega arith) in
-    expr-form q (suc i) w _ (omega arith) (sym (rw some at e)) refl
 
 only-or : (n : ℕ) → getD (Or ∷ []) n Or ≡ Or
 only-or zero = refl
@@ -43,13 +35,6 @@ last-operator w l =
 -- a number above n that is not the next
 pub above : (w n : ℕ) → n < w → (w ≡ suc n → ⊥) → suc n < w
 above w n l e = omega arith
-
-number-form : (w : ℕ) → 0 < w → w < 3 → getD exprForms w nilForm ≡ numberForm
-unfolding exprForms
-number-form zero l m = absurd (omega arith)
-number-form (suc zero) l m = refl
-number-form (suc (suc zero)) l m = refl
-number-form (suc (suc (suc w))) l m = absurd (omega arith)
 
 truth-form : (vs : List Variable) (q : List ℕ) (i w : ℕ) (x y : Expr) (k : List ℕ) → (w ≡ 1 → ⊥) → (w ≡ 2 → ⊥) → (w ≡ 5 → ⊥) → w < 7
     → P.expression vs (getD exprForms w nilForm q i x y) k ≡ P.truthValue (eqb w 4) k
@@ -72,19 +57,6 @@ unary-form vs q i (suc (suc zero)) x y k l n = absurd (n refl)
 unary-form vs q i (suc (suc (suc zero))) x y k l n = refl
 unary-form vs q i (suc (suc (suc (suc v)))) x y k l n = absurd (omega arith)
 
-binary-form : (w : ℕ) → 11 ≤ w → w ≤ 24 → getD exprForms w nilForm ≡ binaryForm (operatorOf w)
-unfolding exprForms
-binary-form w l m =
-    let e : w ≡ 11 + (w - 11) = omega arith in
-    ap (λ v. getD exprForms v nilForm) e
-    ∙ getD-append-add (take 11 exprForms) (map binaryForm operators) (w - 11) nilForm
-    ∙ map-at binaryForm operators (w - 11) _ Or (omega arith)
-
--- nil has no kind
-pub some-node : (q : List ℕ) (i w : ℕ) → w ≡ kindOf q i → 0 < w → 0 < i
-some-node q zero w e l = absurd (omega arith)
-some-node q (suc i) w e l = omega arith
-
 -- a conversion's name and its bracket
 pub conversion-opens : (t u : Ty) (k : List ℕ) → conversionName t u ++ P.put "(" k ≡ typeName t ++ P.put "_TO_" (typeName u ++ P.put "(" k)
 unfolding conversionName
@@ -95,11 +67,11 @@ module _ (vs : List Variable) (q : List ℕ) (i w : ℕ) (is : w ≡ kindOf q i)
   E x = P.expression vs (exprAt q i) x
 
   by-form : (f : ExprForm) → getD exprForms w nilForm ≡ f → E k ≡ P.expression vs (f q i (exprAt q (childOf q i 1)) (exprAt q (childOf q i 2))) k
-  by-form f e = ap (λ x. P.expression vs x k) (expr-at q i w is ∙ ap (λ g. g q i (exprAt q (childOf q i 1)) (exprAt q (childOf q i 2))) e)
+  by-form f e = ap (λ x. P.expression vs x k) (Exprs.by-kind q i w is ∙ ap (λ g. g q i (exprAt q (childOf q i 1)) (exprAt q (childOf q i 2))) e)
 
   pub at-number : 0 < w → w < 3 → E k ≡ P.whole (wholeAt q i) k
   unfolding P.expression
-  at-number l m = by-form numberForm (number-form w l m)
+  at-number l m = ap (λ x. P.expression vs x k) (Exprs.at-number q i w is l m)
 
   pub at-cell : w ≡ 5 → E k ≡ P.cell vs (wordOf q i 1) k
   unfolding P.expression exprForms
@@ -126,7 +98,7 @@ module _ (vs : List Variable) (q : List ℕ) (i w : ℕ) (is : w ≡ kindOf q i)
       ≡ opening q i w (P.expression vs (exprAt q (childOf q i 1)) (P.put (P.sign (operatorOf w)) (P.expression vs (exprAt q (childOf q i 2)) (P.put ")" k))))
   unfolding P.expression
   at-binary l m =
-      by-form _ (binary-form w l m)
+      ap (λ x. P.expression vs x k) (Exprs.at-binary q i w is (omega arith) (omega arith))
       ∙ rw (ne-eqb w 7 (λ e. omega arith), ne-eqb w 8 (λ e. omega arith), ne-eqb w 10 (λ e. omega arith))
 
 -- ---- lists

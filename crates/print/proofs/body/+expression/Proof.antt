@@ -6,7 +6,8 @@ use Rattle.paper.specs.Words.{bytes}
 use Rattle.tree.proofs.Decodes.{child-less}
 use Rattle.variables.specs.Table.{listedIn}
 use Rattle.print.proofs.Laws.{named, _then_}
-use Rattle.print.proofs.Bodies.{some-node, at-nine, at-more, at-unary, at-binary}
+use Rattle.plain.proofs.Exprs.{some-node}
+use Rattle.print.proofs.Bodies.{at-nine, at-more, at-unary, at-binary}
 use Prim.Native.Nat.{ℕ, _<_}
 use borrow.Fn.Kinds.{In}
 use borrow.Fn.PlainCycle.{Measures, is, falls, and}

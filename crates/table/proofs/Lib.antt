@@ -1,0 +1,7 @@
+mod Growing
+mod Pushing
+mod Infos
+mod Cells
+mod Selecting
+mod Binding
+mod Whole
