@@ -16,22 +16,23 @@ use Rattle.print.specs.Printed.{limit}
 use Rattle.paper.proofs.Whys.{code-pos}
 use Rattle.demands.proofs.Prints.{few-steps}
 use Rattle.judge.specs.declared.Judged.{Judged}
+use Rattle.kaldvimur.specs.declared.Outcome.{Outcome}
 use Rattle.kaldvimur.specs.declared.Outcome.the-variants.{Done, Refused as Undone}
 use Rattle.judge.specs.Judged.{Stands, JudgedAs}
 use Rattle.kaldvimur.specs.Prints.{Lies, Prints, Counts}
-use Rattle.kaldvimur.specs.Outcomes.{IsWhy, PrintDid}
+use Rattle.kaldvimur.specs.Outcomes.{IsWhy, Refuses, PrintDid}
 use Rattle.kaldvimur.proofs.Standing.{counts, written}
 
 module _ (t p table q : List ℕ) (j : Judged) (d : JudgedAs t p table q (judge t) j) where
   -- ---- the answer, by the number 0 or another
 
   -- a refusal
-  record Refusal : Type 0 where
-    why : Why
-    is : judge t ≡ refused why (j .place)
-    number : j .number ≡ numberOf why
+  pub record Refusal : Type 0 where
+    pub why : Why
+    pub is : judge t ≡ refused why (j .place)
+    pub number : j .number ≡ numberOf why
 
-  refusal : ¬ (j .number ≡ 0) → Refusal
+  pub refusal : ¬ (j .number ≡ 0) → Refusal
   refusal z = go (judge t) refl d
     where
       go : (o : Answer Sound) → judge t ≡ o → JudgedAs t p table q o j → Refusal
@@ -39,12 +40,12 @@ module _ (t p table q : List ℕ) (j : Judged) (d : JudgedAs t p table q (judge 
       go (given a) e h = absurd (z (h .number))
 
   -- an accepted program
-  record Acceptance : Type 0 where
-    program : Sound
-    is : judge t ≡ given program
-    stands : Stands t p table q program j
+  pub record Acceptance : Type 0 where
+    pub program : Sound
+    pub is : judge t ≡ given program
+    pub stands : Stands t p table q program j
 
-  acceptance : j .number ≡ 0 → Acceptance
+  pub acceptance : j .number ≡ 0 → Acceptance
   acceptance z = go (judge t) refl d
     where
       go : (o : Answer Sound) → judge t ≡ o → JudgedAs t p table q o j → Acceptance
@@ -73,11 +74,11 @@ module _ (t p table q : List ℕ) (j : Judged) (d : JudgedAs t p table q (judge 
 
   -- ---- the print
 
-  pub print-refused : ¬ (j .number ≡ 0) → (r : Why) → IsWhy (j .number) r → (old : List ℕ) → PrintDid t old old (Undone r (j .place))
+  pub print-refused : ¬ (j .number ≡ 0) → (r : Outcome) → Refuses j r → (old : List ℕ) → PrintDid t old old r
   unfolding printInto
   print-refused z r h old =
       let x = refusal z in
-      record { answer = rw (x .is, printInto, h (x .why) (x .number)); lent = rw (x .is, printInto) }
+      record { answer = rw (x .is, printInto) (h (x .why) (x .number)); lent = rw (x .is, printInto) }
 
   pub print-no-room : j .number ≡ 0 → (n : ℕ) → Counts t p table q j n → (old : List ℕ) → length old < n → PrintDid t old old (Undone NoRoom 0)
   unfolding printInto

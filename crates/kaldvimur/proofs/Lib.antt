@@ -3,3 +3,12 @@ pub mod Standing
 pub mod Whys
 pub mod Answers
 pub mod Fits
+pub mod Starting
+pub mod Scanning
+pub mod Totals
+pub mod Checking
+pub mod Following
+pub mod Tabling
+mod Longer
+mod Lending
+pub mod Agreeing

@@ -1,2 +1,8 @@
 pub mod Prints
 pub mod Outcomes
+pub mod Scans
+pub mod States
+pub mod Tables
+pub mod Totals
+pub mod Writing
+pub mod Agreement

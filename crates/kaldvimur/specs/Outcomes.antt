@@ -6,12 +6,17 @@ use lib.ListN.{length}
 use Rattle.paper.specs.declared.Why.{Why}
 use Rattle.paper.specs.Refusals.{Answer, refused, given, numberOf}
 use Rattle.paper.specs.Judge.{Sound, judge, printOf, printInto}
+use Rattle.judge.specs.declared.Judged.{Judged}
 use Rattle.kaldvimur.specs.declared.Outcome.{Outcome}
 use Rattle.kaldvimur.specs.declared.Outcome.the-variants.{Done, Refused}
 
 -- the refusal of the number n, if n is one's
 abbrev pub IsWhy : ℕ → Why → Type 0
 IsWhy n r = (w : Why) → n ≡ numberOf w → r ≡ w
+
+-- the refusal that judging gave, if it gave one
+abbrev pub Refuses : Judged → Outcome → Type 0
+Refuses j r = (w : Why) → j .number ≡ numberOf w → r ≡ Refused w (j .place)
 
 -- done with the count n, or the refusal
 abbrev pub outcome : {A : Type 0} → ℕ → Answer A → Outcome

@@ -1,7 +1,10 @@
 // The public functions. None has a `requires`; what is lent changes only where the answer is no refusal.
+pub mod states;
+pub mod tables;
+
 ghost use mathlib.Core.Path.{_≡_};
 ghost use Rattle.paper.specs.Judge.{verdict};
-ghost use Rattle.kaldvimur.specs.Outcomes.{IsWhy, PrintDid};
+ghost use Rattle.kaldvimur.specs.Outcomes.{IsWhy, Refuses, PrintDid};
 ghost use Rattle.kaldvimur.specs.Prints.{Lies, Prints, Counts};
 use judge::Judged;
 use judge::judge;
@@ -31,6 +34,16 @@ fn why_of(number: u8) -> Why
         10 => Why::NoRoom,
         11 => Why::BadTable,
         _ => Why::BadValue,
+    }
+}
+
+// The refusal of a judged text.
+fn refusal(j: Judged) -> Outcome
+    ensures { λ r. ⌜ Refuses j r ⌝ }
+{
+    Outcome::Refused {
+        why: why_of(j.number),
+        place: j.place,
     }
 }
 
@@ -95,10 +108,7 @@ pub fn print(text: &[u8], out: &mut [u8]) -> Outcome
     let mut plain = [0u16; 60800];
     let j = judge(text, &mut pool, &mut table, &mut plain);
     if j.number != 0 {
-        return Outcome::Refused {
-            why: why_of(j.number),
-            place: j.place,
-        };
+        return refusal(j);
     }
     if out.len() < counted(text, &pool, &table, &plain, j) {
         return Outcome::Refused {

@@ -33,7 +33,7 @@ pub enum Expected {
     Neither,
 }
 
-fn is_digit(b: u8) -> bool
+pub fn is_digit(b: u8) -> bool
     ensures { λ r. ⌜ r ≡ W.isDigit b ⌝ }
 {
     48 <= b && b <= 57

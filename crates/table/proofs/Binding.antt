@@ -14,7 +14,7 @@ use Rattle.paper.specs.Tables.{Line, row, expressionRows, merge, statementRows}
 use Rattle.tree.specs.Nodes.{wordOf, childOf}
 use Rattle.plain.specs.Flat.{exprAt, listAt}
 use Rattle.plain.proofs.Lists.{list-nil, list-assign, list-choice, list-both, list-other}
-use Rattle.table.specs.declared.parts.Made.{Made}
+use Rattle.table.specs.declared.records.Made.{Made}
 use Rattle.table.specs.Growth.{rowsIn, Room}
 use Rattle.table.specs.Walks.{Makes, Stands, Binds, Selects}
 use Rattle.table.proofs.Growing.{room-less}
@@ -69,14 +69,14 @@ module _ (infos p env : List ℕ) where
     other-binds l h = none-binds (listAt p i) (list-other p i node l h)
 
     module _ (env' old new : List ℕ) (n r : ℕ) where
-      pub assign-binds : wordOf p i 0 < 41 → (v : ℕ) → env' ≡ set env (wordOf p i 1) v
+      pub assign-binds : wordOf p i 0 < 41 → (v : Row) → env' ≡ set env (wordOf p i 1) (v .0)
           → Makes old new n (expressionRows (rowsIn env) (exprAt p (childOf p i 2))) (record { count = r; at = v })
           → Binds infos (listAt p i) env env' old new n r
       unfolding statementRows
       assign-binds l v e made =
           rw (list-assign p i node l) (λ is read base rs holds room.
           let x = made base rs holds room in
-          (x .0, ap rowsIn e ∙ rows-set env (wordOf p i 1) v ∙ ap (set (rowsIn env) (wordOf p i 1)) (x .1)))
+          (x .0, ap rowsIn e ∙ rows-set env (wordOf p i 1) (v .0) ∙ ap (set (rowsIn env) (wordOf p i 1)) (x .1)))
 
       pub both-binds : wordOf p i 0 ≡ 44 → (mid far : List ℕ) (m : ℕ) → Binds infos (listAt p (childOf p i 1)) env mid old far n m
           → Binds infos (listAt p (childOf p i 2)) mid env' far new m r → Binds infos (listAt p i) env env' old new n r

@@ -7,13 +7,15 @@ use native.Mathlib.Omega.{arith}
 use borrow.Author.Tests.{eq-eqb, ne-eqb}
 use lib.ListN.{length, getD, take, drop, set, length-set, length-append, drop-of-length-le}
 use lib.Seq.{drop-cons, getD-take, getD-set-same, take-take, take-set-le, drop-set-lt}
+use Rattle.paper.specs.declared.Row.{Row}
 use Rattle.paper.specs.Names.{Info}
 use Rattle.paper.specs.Tables as T
 use Rattle.paper.specs.Tables.{row, cellRecord, cellRecords, reads, rowsFrom}
 use Rattle.paper.specs.Judge.{over}
-use Rattle.table.specs.Growth.{rowsIn, Room, Adds, Emits, Front}
-use Rattle.table.specs.Walks.{Says, Starts, Ends}
-use Rattle.table.proofs.Growing.{room-less}
+use Rattle.table.specs.Growth.{rowsIn, Room, Front}
+use Rattle.table.specs.declared.records.Made.{Made}
+use Rattle.table.specs.Walks.{Pushes, Stands, Says, Starts, Ends}
+use Rattle.table.proofs.Growing.{length-more, room-less}
 use Rattle.table.proofs.Infos.{by-first, none-at}
 
 -- ---- a place stored, and those behind it changed later
@@ -40,10 +42,10 @@ module _ (i v : ℕ) (old new : List ℕ) (later : Front (suc i) (set old i v) n
 
 -- ---- the cells' records
 
-pub input-record : (x n : ℕ) → x / 8 % 2 ≡ 1 → (i : Info) → Says x i → x % 8 + 8 ≡ cellRecord i (row n)
+pub input-record : (x : ℕ) (n : Row) → x / 8 % 2 ≡ 1 → (i : Info) → Says x i → x % 8 + 8 ≡ cellRecord i n
 input-record x n h i s = rw (s .1, eq-eqb (x / 8 % 2) 1 h, s .0)
 
-pub other-record : (x n : ℕ) → (x / 8 % 2 ≡ 1 → ⊥) → (i : Info) → Says x i → x % 8 + 16 * (n + 1) ≡ cellRecord i (row n)
+pub other-record : (x : ℕ) (n : Row) → (x / 8 % 2 ≡ 1 → ⊥) → (i : Info) → Says x i → x % 8 + 16 * (n .0 + 1) ≡ cellRecord i n
 other-record x n h i s = rw (s .1, ne-eqb (x / 8 % 2) 1 h, s .0, add-one)
 
 module _ (i : ℕ) (infos env old : List ℕ) where
@@ -77,32 +79,32 @@ module _ (i : ℕ) (infos env old : List ℕ) (n : ℕ) where
   starts-none l s =
       record {
         front = refl;
-        starts = λ is e.
+        starts = λ is e base rs holds behind.
             let z : is ≡ [] = none-at infos i is l e in
             let none : length env ≤ i = omega arith in
-            rw (z, drop-of-length-le env none) (λ base rs holds room. rw (append-nil rs) holds, refl);
+            rw (z, drop-of-length-le env none) (λ room. (rw (append-nil rs) holds, refl));
       }
 
-  pub starts-one : (env' mid new : List ℕ) (h m r : ℕ) → i < length infos → length infos ≡ length env → length env' ≡ length env
-      → h ≡ 8 + getD infos i 0 % 8 → Emits old mid n h i 0 0 m
-      → Starts (i + 1) infos (set env i i) env' mid new m r → Starts i infos env env' old new n r
+  pub starts-one : (env' mid new : List ℕ) (h r : ℕ) (x : Made) → i < length infos → length infos ≡ length env → length env' ≡ length env
+      → h ≡ 8 + getD infos i 0 % 8 → Pushes old mid n h i 0 0 x
+      → Starts (i + 1) infos (set env i (x .at .0)) env' mid new (x .count) r → Starts i infos env env' old new n r
   unfolding reads rowsFrom
-  starts-one env' mid new h m r l a s eh emit later =
-      let more : Starts (suc i) infos (set env i i) env' mid new m r = rw (add-one i) at later in
+  starts-one env' mid new h r x l a s eh push later =
+      let more : Starts (suc i) infos (set env i (x .at .0)) env' mid new (x .count) r = rw (add-one i) at later in
       record {
-        front = front-stored i i env env' (more .front);
-        starts = λ is e.
-            by-first infos i is l e (λ js. Adds old new n r (λ rs. rs ++ reads i js) × (rowsIn (drop i env') ≡ rowsFrom i js))
-            λ j js says read.
-            let rest = more .starts js read in
-            (added j js says (rest .0), ap rowsIn (place-stored i i env env' (more .front) (omega arith) s) ∙ ap (λ xs. row i ∷ xs) (rest .1));
+        front = front-stored i (x .at .0) env env' (more .front);
+        starts = λ is e base rs holds behind.
+            by-first infos i is l e (λ js. Stands base new r (drop i env') (record { rows = rs ++ reads i js; env = rowsFrom i js }))
+            λ j js says read room.
+            let y = T.read (j .ty) (record { 0 = i }) in
+            let split : rs ++ y ∷ reads (suc i) js ≡ (rs ++ y ∷ []) ++ reads (suc i) js = sym (append-assoc rs (y ∷ []) (reads (suc i) js)) in
+            let all : Room base (length ((rs ++ y ∷ []) ++ reads (suc i) js)) = rw split at room in
+            let one : length (rs ++ y ∷ []) ≤ length ((rs ++ y ∷ []) ++ reads (suc i) js) = simp length-append (omega arith) in
+            let made = push y (rw (eh, says .0)) base rs holds (room-less base _ _ one all) in
+            let rest = more .starts js read base (rs ++ y ∷ []) (made .0) (length-more rs y ∙ ap suc behind) all in (
+              rw split (rest .0),
+              ap rowsIn (place-stored i (x .at .0) env env' (more .front) (omega arith) s)
+                  ∙ ap (λ v. v ∷ rowsIn (drop (suc i) env')) (made .1 ∙ ap row behind)
+                  ∙ ap (λ xs. row i ∷ xs) (rest .1),
+            );
       }
-    where
-      added : (j : Info) (js : List Info) → Says (getD infos i 0) j → Adds mid new m r (λ rs. rs ++ reads (suc i) js)
-          → Adds old new n r (λ rs. rs ++ T.read (j .ty) (record { 0 = i }) ∷ reads (suc i) js)
-      added j js says rest base rs holds room =
-          let x = T.read (j .ty) (record { 0 = i }) in
-          let split : rs ++ x ∷ reads (suc i) js ≡ (rs ++ x ∷ []) ++ reads (suc i) js = sym (append-assoc rs (x ∷ []) (reads (suc i) js)) in
-          let all : Room base (length ((rs ++ x ∷ []) ++ reads (suc i) js)) = rw split at room in
-          let one : length (rs ++ x ∷ []) ≤ length ((rs ++ x ∷ []) ++ reads (suc i) js) = simp length-append (omega arith) in
-          rw split (rest base (rs ++ x ∷ []) (emit x (rw (eh, says .0)) base rs holds (room-less base _ _ one all)) all)

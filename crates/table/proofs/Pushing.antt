@@ -17,7 +17,7 @@ use Rattle.tree.specs.Nodes.{wordOf, kindOf, childOf}
 use Rattle.tree.specs.Trees.{types, operators, wholeAt}
 use Rattle.plain.specs.Flat.{typeAt, exprAt}
 use Rattle.plain.proofs.Exprs.{at-number, at-true, at-false, at-read, at-minus, at-complement, at-conversion, at-binary}
-use Rattle.table.specs.declared.parts.Made.{Made}
+use Rattle.table.specs.declared.records.Made.{Made}
 use Rattle.table.specs.Growth.{rowsIn, Emits}
 use Rattle.table.specs.Walks.{Makes, Pushes, operatorLine, HeadOf}
 use Rattle.table.proofs.Growing.{length-more, room-less}
@@ -40,24 +40,24 @@ row-at (x ∷ env) (suc c) = row-at env c
 
 -- ---- one row more
 
-pub pushed : (old new : List ℕ) (n h a b r : ℕ) → Emits old new n h a b 0 r → Pushes old new n h a b (record { count = r; at = n })
-pushed old new n h a b r emit l e base rs holds room = (emit l e base rs holds room, ap row (holds .count))
+pub pushed : (old new : List ℕ) (n h a b c r : ℕ) → Emits old new n h a b c r → Pushes old new n h a b c (record { count = r; at = row n })
+pushed old new n h a b c r emit l e base rs holds room = (emit l e base rs holds room, ap row (holds .count))
 
 module _ (old mid new : List ℕ) (n h : ℕ) (x r : Made) (f : List Line → T.Made) (first : Makes old mid n f x) where
   -- over one operand
-  pub then-push : (line : ℕ → Line) → ((a : ℕ) → recordOf (line a) ≡ h ∷ a ∷ 0 ∷ 0 ∷ []) → Pushes mid new (x .count) h (x .at) 0 r
-      → Makes old new n (λ rs. push (f rs .rows) (line (f rs .at .0))) r
+  pub then-push : (line : Row → Line) → ((a : Row) → recordOf (line a) ≡ h ∷ a .0 ∷ 0 ∷ 0 ∷ []) → Pushes mid new (x .count) h (x .at .0) 0 0 r
+      → Makes old new n (λ rs. push (f rs .rows) (line (f rs .at))) r
   then-push line e last base rs holds room =
-      let l = line (f rs .at .0) in
+      let l = line (f rs .at) in
       let y = first base rs holds (room-less base _ _ (omega (arith, length-more (f rs .rows) l)) room) in
       last l (e _ ∙ ap (λ a. h ∷ a .0 ∷ 0 ∷ 0 ∷ []) (sym (y .1))) base (f rs .rows) (y .0) room
 
   -- over two
   pub then-both : (far : List ℕ) (y : Made) (g : List Line → T.Made) → ((rs : List Line) → length rs ≤ length (g rs .rows)) → Makes mid far (x .count) g y
-      → (line : ℕ → ℕ → Line) → ((a b : ℕ) → recordOf (line a b) ≡ h ∷ a ∷ b ∷ 0 ∷ []) → Pushes far new (y .count) h (x .at) (y .at) r
-      → Makes old new n (λ rs. push (g (f rs .rows) .rows) (line (f rs .at .0) (g (f rs .rows) .at .0))) r
+      → (line : Row → Row → Line) → ((a b : Row) → recordOf (line a b) ≡ h ∷ a .0 ∷ b .0 ∷ 0 ∷ []) → Pushes far new (y .count) h (x .at .0) (y .at .0) 0 r
+      → Makes old new n (λ rs. push (g (f rs .rows) .rows) (line (f rs .at) (g (f rs .rows) .at))) r
   then-both far y g grows second line e last base rs holds room =
-      let l = line (f rs .at .0) (g (f rs .rows) .at .0) in
+      let l = line (f rs .at) (g (f rs .rows) .at) in
       let rooms = room-less base (length (g (f rs .rows) .rows)) _ (omega (arith, length-more (g (f rs .rows) .rows) l)) room in
       let v = first base rs holds (room-less base _ _ (grows (f rs .rows)) rooms) in
       let w = second base (f rs .rows) (v .0) rooms in
@@ -105,7 +105,7 @@ module _ (p : List ℕ) (i k h : ℕ) where
         ne-eqb k 8 (λ e. omega arith),
         ne-eqb k 10 (λ e. omega arith),
         le-ltb k 11 l,
-        operator-number (k - 11) (omega arith) (typeAt p i) (row a) (row b),
+        operator-number (k - 11) (omega arith) (typeAt p i) a b,
         s,
       )
 
@@ -116,32 +116,32 @@ module _ (env p : List ℕ) (i k : ℕ) (is : k ≡ kindOf p i) where
   rows = expressionRows (rowsIn env) (exprAt p i)
 
   module _ (old new : List ℕ) (n : ℕ) (r : Made) where
-    pub number-made : 0 < k → k < 3 → (t : Ty) (h a : ℕ) → t ≡ typeAt p i → h ≡ 8 * 0 + tag t → a ≡ encode t (wholeAt p i) → Pushes old new n h a 0 r → Makes old new n rows r
+    pub number-made : 0 < k → k < 3 → (t : Ty) (h a : ℕ) → t ≡ typeAt p i → h ≡ 8 * 0 + tag t → a ≡ encode t (wholeAt p i) → Pushes old new n h a 0 0 r → Makes old new n rows r
     unfolding expressionRows
     number-made l m t h a et eh ea made = rw (at-number p i k is l m) (made (T.number (typeAt p i) (encode (typeAt p i) (wholeAt p i))) (rw (eh, ea, et)))
 
-    pub true-made : k ≡ 4 → Pushes old new n 0 1 0 r → Makes old new n rows r
+    pub true-made : k ≡ 4 → Pushes old new n 0 1 0 0 r → Makes old new n rows r
     unfolding expressionRows
     true-made e made = rw (at-true p i k is e) (made (T.number BOOL 1) refl)
 
-    pub false-made : (k ≡ 1 → ⊥) → (k ≡ 2 → ⊥) → (k ≡ 4 → ⊥) → (k ≡ 5 → ⊥) → (6 < k → (k ≡ 9 → ⊥) → 24 < k) → Pushes old new n 0 0 0 r → Makes old new n rows r
+    pub false-made : (k ≡ 1 → ⊥) → (k ≡ 2 → ⊥) → (k ≡ 4 → ⊥) → (k ≡ 5 → ⊥) → (6 < k → (k ≡ 9 → ⊥) → 24 < k) → Pushes old new n 0 0 0 0 r → Makes old new n rows r
     unfolding expressionRows
     false-made a b c d h made = rw (at-false p i k is a b c d h) (made (T.number BOOL 0) refl)
 
-  pub read-made : k ≡ 5 → (old : List ℕ) (n v : ℕ) → v ≡ getD env (wordOf p i 1) 0 → Makes old old n rows (record { count = n; at = v })
+  pub read-made : k ≡ 5 → (old : List ℕ) (n : ℕ) (v : Row) → v ≡ row (getD env (wordOf p i 1) 0) → Makes old old n rows (record { count = n; at = v })
   unfolding expressionRows
-  read-made e old n v d = rw (at-read p i k is e) (λ base rs holds room. (holds, ap row d ∙ sym (row-at env (wordOf p i 1))))
+  read-made e old n v d = rw (at-read p i k is e) (λ base rs holds room. (holds, d ∙ sym (row-at env (wordOf p i 1))))
 
   -- the rows of an operand, and of the operator over one and over two
   abbrev operand : ℕ → List Line → T.Made
   operand j = expressionRows (rowsIn env) (exprAt p (childOf p i j))
 
   abbrev overOne : List Line → T.Made
-  overOne rs = push (operand 1 rs .rows) (operatorLine p i k (operand 1 rs .at .0) 0)
+  overOne rs = push (operand 1 rs .rows) (operatorLine p i k (operand 1 rs .at) (row 0))
 
   abbrev overTwo : List Line → T.Made
   overTwo rs =
-      push (operand 2 (operand 1 rs .rows) .rows) (operatorLine p i k (operand 1 rs .at .0) (operand 2 (operand 1 rs .rows) .at .0))
+      push (operand 2 (operand 1 rs .rows) .rows) (operatorLine p i k (operand 1 rs .at) (operand 2 (operand 1 rs .rows) .at))
 
   one-rows : 6 < k → k < 11 → (k ≡ 9 → ⊥) → (rs : List Line) → rows rs ≡ overOne rs
   unfolding expressionRows
@@ -160,13 +160,13 @@ module _ (env p : List ℕ) (i k : ℕ) (is : k ≡ kindOf p i) where
 
   module _ (old mid new : List ℕ) (n h : ℕ) (x r : Made)
       (head : HeadOf p i k h) (first : Makes old mid n (operand 1) x) where
-    pub one-made : 6 < k → k < 11 → (k ≡ 9 → ⊥) → Pushes mid new (x .count) h (x .at) 0 r → Makes old new n rows r
+    pub one-made : 6 < k → k < 11 → (k ≡ 9 → ⊥) → Pushes mid new (x .count) h (x .at .0) 0 0 r → Makes old new n rows r
     one-made l m d last =
         named old new n rows overOne r (one-rows l m d)
-        (then-push old mid new n h x r (operand 1) first (λ a. operatorLine p i k a 0) (λ a. head a 0 ∙ rw (lt-ltb k 11 m)) last)
+        (then-push old mid new n h x r (operand 1) first (λ a. operatorLine p i k a (row 0)) (λ a. head a (row 0) ∙ rw (lt-ltb k 11 m)) last)
 
     pub two-made : 10 < k → k < 25 → (far : List ℕ) (y : Made) → Makes mid far (x .count) (operand 2) y
-        → Pushes far new (y .count) h (x .at) (y .at) r → Makes old new n rows r
+        → Pushes far new (y .count) h (x .at .0) (y .at .0) 0 r → Makes old new n rows r
     two-made l m far y second last =
         named old new n rows overTwo r (two-rows l m)
         (then-both old mid new n h x r (operand 1) first far y (operand 2) (expression-grows (rowsIn env) (exprAt p (childOf p i 2))) second (operatorLine p i k) (λ a b. head a b ∙ rw (le-ltb k 11 l)) last)

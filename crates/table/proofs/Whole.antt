@@ -20,8 +20,7 @@ pub whole-table : (p : List ℕ) (i : ℕ) (infos env first last old mid new cel
     → Tabled p i infos old new cells cells' b
 unfolding tableOf
 whole-table p i infos env first last old mid new cells cells' a b starts binds ends is read room =
-    let s = starts .starts is read in
-    let h = s .0 old [] (empty old) (room-less old _ _ (statement-grows is (listAt p i) (rowsFrom 0 is) (reads 0 is)) room) in
-    let m : Stands old new b last (statementRows is (listAt p i) (rowsFrom 0 is) (reads 0 is)) = rw (s .1) at (binds is read old (reads 0 is) h) in
+    let s = starts .starts is read old [] (empty old) refl (room-less old _ _ (statement-grows is (listAt p i) (rowsFrom 0 is) (reads 0 is)) room) in
+    let m : Stands old new b last (statementRows is (listAt p i) (rowsFrom 0 is) (reads 0 is)) = rw (s .1) at (binds is read old (reads 0 is) (s .0)) in
     let r = m room in
     (r .0 .count, r .0 .rows, ends .ends is read ∙ ap (λ es. over (cellRecords is es) cells) (r .1))

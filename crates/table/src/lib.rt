@@ -8,22 +8,27 @@ mod lists;
 mod merging;
 mod parts;
 mod records;
+mod standing;
 
 use lists::list_rows;
+use paper::Cell;
 use records::cell_records;
-use records::emit_row;
+use records::push_read;
+use standing::set_row;
 
-// From the cell `i` on: a row for the cell's value at the scan's start, which stands for the cell.
-fn read_from(i: usize, infos: &[u32], env: &mut [u16], rows: &mut [u32], count: u16) -> u16
+// From the cell `c` on: a row for the cell's value at the scan's start, which stands for the cell.
+fn read_from(c: Cell, infos: &[u32], env: &mut [u16], rows: &mut [u32], count: u16) -> u16
     requires { ⌜ (length (now infos) ≡ length (now env)) × (length (now env) ≤ 64) ⌝ }
-    ensures { λ r. ⌜ Starts i (now (infos .entry)) (now (env .entry)) (now (env .exit)) (now (rows .entry)) (now (rows .exit)) count r ⌝ }
+    ensures { λ r. ⌜ Starts (c .0) (now (infos .entry)) (now (env .entry)) (now (env .exit)) (now (rows .entry)) (now (rows .exit)) count r ⌝ }
 {
+    let i = c.0 as usize;
     if infos.len() <= i {
         return count;
     }
-    env[i] = i as u16;
-    let n = emit_row(rows, count, 8 + infos[i] % 8, i as u32, 0, 0);
-    read_from(i + 1, infos, env, rows, n)
+    let x = push_read(rows, count, 8 + infos[i] % 8, c);
+    let at = x.at;
+    set_row(env, c, at);
+    read_from(Cell(c.0 + 1), infos, env, rows, x.count)
 }
 
 // The table of a list, where `env` has a place for each cell.
@@ -38,9 +43,9 @@ fn table_in(
     requires { ⌜ (4 * list + 4 ≤ length (now plain)) × (length (now infos) ≡ length (now env)) × (length (now env) ≤ 64) × (length (now infos) ≤ length (now cells)) ⌝ }
     ensures { λ r. ⌜ Tabled (now (plain .entry)) list (now (infos .entry)) (now (rows .entry)) (now (rows .exit)) (now (cells .entry)) (now (cells .exit)) r ⌝ }
 {
-    let a = read_from(0, infos, env, rows, 0);
+    let a = read_from(Cell(0), infos, env, rows, 0);
     let b = list_rows(plain, list, infos, env, rows, a);
-    cell_records(0, infos, env, cells);
+    cell_records(Cell(0), infos, env, cells);
     b as usize
 }
 

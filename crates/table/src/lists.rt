@@ -7,20 +7,11 @@ ghost use Rattle.plain.specs.Flat.{listAt};
 ghost use Rattle.table.specs.Walks.{Binds};
 use crate::merging::merge_cells;
 use crate::parts::expression_rows;
+use crate::standing::copy;
+use crate::standing::set_row;
+use paper::Cell;
 use tree::child;
 use tree::word;
-
-// `to` as a copy of `from`.
-fn copy(from: &[u16], to: &mut [u16])
-    requires { ⌜ length (now from) ≡ length (now to) ⌝ }
-    ensures { λ _. ⌜ now (to .exit) ≡ now (from .entry) ⌝ }
-{
-    let mut i = 0;
-    while i < to.len() {
-        to[i] = from[i];
-        i += 1;
-    }
-}
 
 // An assignment: its right side's row stands for the cell.
 fn assignment_rows(
@@ -35,10 +26,8 @@ fn assignment_rows(
     ensures { λ r. ⌜ Binds (now (infos .entry)) (listAt (now (plain .entry)) i) (now (env .entry)) (now (env .exit)) (now (rows .entry)) (now (rows .exit)) count r ⌝ }
 {
     let x = expression_rows(plain, child(plain, i, 2), env, rows, count);
-    let c = word(plain, i, 1) as usize;
-    if c < env.len() {
-        env[c] = x.at;
-    }
+    let at = x.at;
+    set_row(env, Cell(word(plain, i, 1)), at);
     x.count
 }
 
@@ -61,7 +50,8 @@ fn choice_rows(
     let y = list_rows(plain, a, infos, env, rows, x.count);
     let b = child(plain, i, 3);
     let z = list_rows(plain, b, infos, other, rows, y);
-    merge_cells(plain, a, b, x.at, infos, env, other, rows, z)
+    let test = x.at;
+    merge_cells(plain, a, b, test, infos, env, other, rows, z)
 }
 
 // The rows of a list.

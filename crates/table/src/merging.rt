@@ -4,13 +4,17 @@ ghost use Prim.Native.Nat.{_+_, _*_, _≤_};
 ghost use lib.ListN.{length};
 ghost use Rattle.plain.specs.Flat.{listAt};
 ghost use Rattle.table.specs.Walks.{Merges, Selects};
-use crate::records::emit_row;
+use crate::records::push_select;
+use crate::standing::row_of;
+use crate::standing::set_row;
+use paper::Cell;
+use paper::Row;
 use plain::mark;
 
-// From the cell `i` on: a select over the row `test` where the cell is marked.
+// From the cell `c` on: a select over the row `test` where the cell is marked.
 fn merge_from(
-    i: usize,
-    test: u16,
+    c: Cell,
+    test: Row,
     infos: &[u32],
     marks: &[u8],
     env: &mut [u16],
@@ -18,20 +22,23 @@ fn merge_from(
     rows: &mut [u32],
     count: u16,
 ) -> u16
-    requires { ⌜ (length (now infos) ≡ length (now env)) × (length (now other) ≡ length (now env)) × (length (now env) ≤ length (now marks)) ⌝ }
-    ensures { λ r. ⌜ Merges i test (now (infos .entry)) (now (marks .entry)) (now (env .entry)) (now (env .exit)) (now (other .entry)) (now (rows .entry)) (now (rows .exit)) count r ⌝ }
+    requires { ⌜ (length (now infos) ≡ length (now env)) × (length (now other) ≡ length (now env)) × (length (now env) ≤ 64) × (length (now env) ≤ length (now marks)) ⌝ }
+    ensures { λ r. ⌜ Merges (c .0) test (now (infos .entry)) (now (marks .entry)) (now (env .entry)) (now (env .exit)) (now (other .entry)) (now (rows .entry)) (now (rows .exit)) count r ⌝ }
 {
+    let i = c.0 as usize;
     if env.len() <= i {
         return count;
     }
+    let later = Cell(c.0 + 1);
     if marks[i] == 0 {
-        return merge_from(i + 1, test, infos, marks, env, other, rows, count);
+        return merge_from(later, test, infos, marks, env, other, rows, count);
     }
-    let a = env[i] as u32;
-    let b = other[i] as u32;
-    let n = emit_row(rows, count, 32 + infos[i] % 8, test as u32, a, b);
-    env[i] = count;
-    merge_from(i + 1, test, infos, marks, env, other, rows, n)
+    let a = row_of(env, c);
+    let b = row_of(other, c);
+    let x = push_select(rows, count, 32 + infos[i] % 8, test, a, b);
+    let at = x.at;
+    set_row(env, c, at);
+    merge_from(later, test, infos, marks, env, other, rows, x.count)
 }
 
 // Every cell behind an IF with the lists `a` and `b`, whose condition is the row `test`.
@@ -39,7 +46,7 @@ pub fn merge_cells(
     plain: &[u16],
     a: usize,
     b: usize,
-    test: u16,
+    test: Row,
     infos: &[u32],
     env: &mut [u16],
     other: &[u16],
@@ -52,5 +59,5 @@ pub fn merge_cells(
     let mut marks = [0u8; 64];
     mark(plain, a, &mut marks);
     mark(plain, b, &mut marks);
-    merge_from(0, test, infos, &marks, env, other, rows, count)
+    merge_from(Cell(0), test, infos, &marks, env, other, rows, count)
 }

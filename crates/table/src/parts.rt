@@ -1,14 +1,19 @@
 // Rows of expressions: one for each part, and the row that stands for a cell where it is read.
 ghost use mathlib.Core.Path.{_≡_};
 ghost use Prim.Native.Nat.{_+_, _*_, _≤_, _<_};
-ghost use lib.ListN.{length, getD};
+ghost use lib.ListN.{length};
 ghost use Rattle.paper.specs.Tables.{expressionRows};
 ghost use Rattle.tree.specs.Nodes.{kindOf};
 ghost use Rattle.plain.specs.Flat.{exprAt};
 ghost use Rattle.table.specs.Growth.{rowsIn};
-ghost use Rattle.table.specs.Walks.{Makes, Pushes, HeadOf};
-use crate::records::emit_row;
+ghost use Rattle.table.specs.Walks.{Makes, HeadOf};
+use crate::records::Made;
 use crate::records::head;
+use crate::records::push_number;
+use crate::records::push_one;
+use crate::records::push_two;
+use crate::standing::row_of;
+use paper::Cell;
 use tree::child;
 use tree::kind;
 use tree::whole;
@@ -16,29 +21,6 @@ use tree::word;
 use value::residue_of;
 use value::tag_of;
 use variables::type_at;
-
-// The number of rows so far, and the row that stands for an expression.
-pub struct Made {
-    pub count: u16,
-    pub at: u16,
-}
-
-// One row more, with at most two operands.
-fn push(rows: &mut [u32], count: u16, first: u32, a: u32, b: u32) -> Made
-    ensures { λ r. ⌜ Pushes (now (rows .entry)) (now (rows .exit)) count first a b r ⌝ }
-{
-    Made {
-        count: emit_row(rows, count, first, a, b, 0),
-        at: count,
-    }
-}
-
-// The row that stands for the cell `c`.
-fn row_of(env: &[u16], c: usize) -> u16
-    ensures { λ r. ⌜ r ≡ getD (now (env .entry)) c 0 ⌝ }
-{
-    if c < env.len() { env[c] } else { 0 }
-}
 
 // An expression without operands, of the kind `k`.
 fn leaf(plain: &[u16], i: usize, k: u16, env: &[u16], rows: &mut [u32], count: u16) -> Made
@@ -48,20 +30,20 @@ fn leaf(plain: &[u16], i: usize, k: u16, env: &[u16], rows: &mut [u32], count: u
     if k == 5 {
         return Made {
             count,
-            at: row_of(env, word(plain, i, 1) as usize),
+            at: row_of(env, Cell(word(plain, i, 1))),
         };
     }
     if k == 4 {
-        return push(rows, count, 0, 1, 0);
+        return push_number(rows, count, 0, 1);
     }
     if k == 0 {
-        return push(rows, count, 0, 0, 0);
+        return push_number(rows, count, 0, 0);
     }
     if 2 < k {
-        return push(rows, count, 0, 0, 0);
+        return push_number(rows, count, 0, 0);
     }
     let t = type_at(word(plain, i, 3));
-    push(rows, count, head(0, t), residue_of(t, whole(plain, i)), 0)
+    push_number(rows, count, head(0, t), residue_of(t, whole(plain, i)))
 }
 
 // The first number of an operator's row, at a node of the kind `k`.
@@ -100,10 +82,11 @@ pub fn expression_rows(plain: &[u16], i: usize, env: &[u16], rows: &mut [u32], c
     }
     let first = operator_head(plain, i, k);
     let x = expression_rows(plain, child(plain, i, 1), env, rows, count);
-    let a = x.at as u32;
+    let a = x.at;
     if k < 11 {
-        return push(rows, x.count, first, a, 0);
+        return push_one(rows, x.count, first, a);
     }
     let y = expression_rows(plain, child(plain, i, 2), env, rows, x.count);
-    push(rows, y.count, first, a, y.at as u32)
+    let b = y.at;
+    push_two(rows, y.count, first, a, b)
 }

@@ -64,7 +64,7 @@ module _ (t p tab : List ℕ) (env : State) (i n w x : ℕ) (ex : x ≡ childOf 
   assign-beyond ec ea c e l =
       no-target ec ea (λ ins. absurd (omega (arith, cell-inside vs (length env) ins (record { 0 = c }) env (exprAt t p x) (sym e))))
 
-  pub assign-did : (mid new : List ℕ) (cell at y : ℕ) (ty : Ty) (v : Part) → some (record { 0 = cell }) ≡ cellOf vs env (exprAt t p x)
+  pub assign-did : (mid new : List ℕ) (cell : Cell) (at y : ℕ) (ty : Ty) (v : Part) → some cell ≡ cellOf vs env (exprAt t p x)
       → ty ≡ typeIn vs DINT (exprAt t p x) → at ≡ firstWord (exprAt t p x) → y ≡ childOf p i 2 → PlainDid t p tab env ty y old mid n v
       → AssignedDid mid new at cell w v r → n ≤ 4 * w → WalkDid vs (length env) old new n w (assignAt vs t p env i w) r
   assign-did mid new cell at y ty v ec et ea ey d a l =
@@ -81,7 +81,7 @@ module _ (t p tab : List ℕ) (env : State) (i n w x : ℕ) (ex : x ≡ childOf 
             ∙ ap (assigning at cell w) (d .is ins)
             ∙ ap (λ q. assigning q cell w (plainOf vs env ty (exprAt t p y))) at-is
             ∙ ap₂ (λ u j. assigning (firstWord X) cell w (plainOf vs env u (exprAt t p j))) type-is ey
-            ∙ sym (target _ (cell-given vs env (exprAt t p x) (record { 0 = cell }) ec));
+            ∙ sym (target _ (cell-given vs env (exprAt t p x) cell ec));
       }
 
 -- ---- in front of a list

@@ -113,7 +113,7 @@ module _ (old : List ℕ) (n a b w : ℕ) (r : Walk) (code : r .code ≡ 0) (wei
 
 -- ---- an assignment
 
-module _ (old : List ℕ) (at cell w : ℕ) (v : Part) (r : Walk) where
+module _ (old : List ℕ) (at : ℕ) (cell : Cell) (w : ℕ) (v : Part) (r : Walk) where
   refused-does : (n : ℕ) (o : Answer Expr) → Parted old n o v → (v .code ≡ 0 → ⊥) → r .code ≡ v .code → r .at ≡ v .at
       → (r .code ≡ 0 → Goes n w r) × (said old r ≡ assigning at cell w o)
   refused-does n (refused y q) h non ec ea = ((λ z. absurd (non (sym ec ∙ z))), said-bad old r y q (ec ∙ h .0) (ea ∙ h .1))
@@ -129,13 +129,13 @@ module _ (old : List ℕ) (at cell w : ℕ) (v : Part) (r : Walk) where
   heavy-does n (given x) h z l ec ea =
       let more : 3000 < w + parts x = omega (arith, h .1) in (
         (λ c. absurd (omega arith)),
-        said-bad old r TooHeavy at ec ea ∙ sym (ap (λ a. a >>= λ m. unwound (assign (record { 0 = cell }) x done) m) (outweighs at (parts x) w more)),
+        said-bad old r TooHeavy at ec ea ∙ sym (ap (λ a. a >>= λ m. unwound (assign cell x done) m) (outweighs at (parts x) w more)),
       )
 
   pub assigned-heavy : v .code ≡ 0 → 3000 < w + v .parts → r .code ≡ 9 → r .at ≡ at → AssignedDid old old at cell w v r
   assigned-heavy z l ec ea = record { long = refl; same = λ j s. refl; does = λ n o h k m. heavy-does n o h z l ec ea }
 
-  module _ (new : List ℕ) (m : ℕ) (e : Emitted old new (v .count) 40 cell (v .count) 0 m) (code : r .code ≡ 0) (ec : r .count ≡ m) (er : r .root ≡ m) (ew : r .weight ≡ w + v .parts) where
+  module _ (new : List ℕ) (m : ℕ) (e : Emitted old new (v .count) 40 (cell .0) (v .count) 0 m) (code : r .code ≡ 0) (ec : r .count ≡ m) (er : r .root ≡ m) (ew : r .weight ≡ w + v .parts) where
     good-does : (n : ℕ) (o : Answer Expr) → Parted old n o v → v .code ≡ 0 → w + v .parts ≤ 3000 → n ≤ 4 * w → 60800 ≤ length old
         → (r .code ≡ 0 → Goes n w r) × (said new r ≡ assigning at cell w o)
     good-does n (refused y q) h z l k f = absurd (code-pos y (sym (h .0) ∙ z))
@@ -152,10 +152,10 @@ module _ (old : List ℕ) (at cell w : ℕ) (v : Part) (r : Walk) where
           said-good new r code
               ∙ ap₂ unwound
               (ap₂ listAt (wrote .1) (er ∙ last)
-              ∙ put-assign old (v .count + 1) cell (v .count) 0 (omega arith) room done (omega arith)
-              ∙ ap (λ y. assign (record { 0 = cell }) y done) (before .1))
+              ∙ put-assign old (v .count + 1) (cell .0) (v .count) 0 (omega arith) room done (omega arith)
+              ∙ ap (λ y. assign cell y done) (before .1))
               weight
-              ∙ sym (ap (λ a. a >>= λ m. unwound (assign (record { 0 = cell }) x done) m) (weighs at (parts x) w (omega arith))),
+              ∙ sym (ap (λ a. a >>= λ m. unwound (assign cell x done) m) (weighs at (parts x) w (omega arith))),
         )
 
     pub assigned-good : v .code ≡ 0 → w + v .parts ≤ 3000 → 60800 ≤ length old → AssignedDid old new at cell w v r

@@ -69,10 +69,10 @@ pub record Linked (old new : List ℕ) (n a b w : ℕ) (r : Walk) : Type 0 where
 -- ---- assignments
 
 -- `cell := v;` where v was just walked
-abbrev pub assigning : ℕ → ℕ → ℕ → Answer Expr → Answer Unwound
-assigning at cell w o = o >>= λ x. heavier at (parts x) w >>= λ m. unwound (assign (record { 0 = cell }) x done) m
+abbrev pub assigning : ℕ → Cell → ℕ → Answer Expr → Answer Unwound
+assigning at cell w o = o >>= λ x. heavier at (parts x) w >>= λ m. unwound (assign cell x done) m
 
-pub record AssignedDid (old new : List ℕ) (at cell w : ℕ) (v : Part) (r : Walk) : Type 0 where
+pub record AssignedDid (old new : List ℕ) (at : ℕ) (cell : Cell) (w : ℕ) (v : Part) (r : Walk) : Type 0 where
   pub long : length new ≡ length old
   pub same : Same (v .count) old new
   -- from n nodes on

@@ -14,6 +14,7 @@ use crate::parts::emit;
 use crate::parts::plain_of;
 use constants::cell_of;
 use constants::type_in;
+use paper::Cell;
 use paper::Ty;
 use plain::cells_within;
 use tree::child;
@@ -87,7 +88,7 @@ pub fn linked(out: &mut [u16], count: usize, a: usize, b: usize, weight: usize) 
 }
 
 // cell := v, where `v` was just walked; the weight passes 3,000 at `at`.
-fn assigned(out: &mut [u16], at: usize, cell: u16, v: Part, weight: usize) -> Walk
+fn assigned(out: &mut [u16], at: usize, cell: Cell, v: Part, weight: usize) -> Walk
     requires { ⌜ (Room (now out) (v .count)) × (v .parts ≤ 3001) × (weight ≤ 3000) × (60800 ≤ length (now out)) ⌝ }
     ensures { λ r. ⌜ AssignedDid (now (out .entry)) (now (out .exit)) at cell weight v r ⌝ }
 {
@@ -98,7 +99,7 @@ fn assigned(out: &mut [u16], at: usize, cell: u16, v: Part, weight: usize) -> Wa
     if 3000 < w {
         return refused(9, at, v.count);
     }
-    let n = emit(out, v.count, 40, cell, v.count as u16, 0);
+    let n = emit(out, v.count, 40, cell.0, v.count as u16, 0);
     walked(n, n, w)
 }
 
@@ -123,7 +124,7 @@ pub fn assignment(
         if n < env.len() {
             let t = type_in(text, pool, table, Ty::Dint, x);
             let v = plain_of(text, pool, table, env, t, child(pool, i, 2), out, count);
-            return assigned(out, first_word(pool, x), n as u16, v, weight);
+            return assigned(out, first_word(pool, x), Cell(n as u16), v, weight);
         }
         return refused(8, bracket_of(pool, x), count);
     }

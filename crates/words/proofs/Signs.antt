@@ -1,18 +1,18 @@
 -- The signs: their lengths, which bytes are one, and which are none.
 use mathlib.Core.Path.{_≡_, refl, sym, ap, _∙_}
-use mathlib.Core.Bool.{Bool, Bool-set, true, false, not, cond, _&&_, _||_, false≢true, or-eq-true-iff}
+use mathlib.Core.Bool.{Bool, true, false, not, cond, _&&_, false≢true}
 use mathlib.Core.List.{List, [], _∷_, _++_, map}
-use mathlib.Core.Logic.{Or·elim}
 use Prim.Native.Nat.{ℕ, _+_, _-_, _≤_, _<_}
 use native.Mathlib.Omega.{arith}
-use borrow.Author.Tests.{eqb-true, ne-eqb, ltb-true, ltb-false, not-true}
+use borrow.Author.Tests.{ne-eqb, ltb-true, ltb-false, not-true}
 use lib.Dec.{eqb, ltb}
 use lib.ListN.{length, getD, replicate, getD-replicate, List·getD-append, List·getD-map, List·getD-eq-default}
 use lib.Seq.{getD-append-add}
 use Rattle.paper.specs.Words as W
 use Rattle.paper.specs.Words.{Spelled, bytes, reserved, signs, begins, signPiece}
 use Rattle.words.specs.Denoted.{entries, entry, signOf, IsSign}
-use Rattle.words.proofs.Truths.{both, all, all-at}
+use Rattle.words.specs.Keys.{NoneOf}
+use Rattle.words.proofs.Truths.{both, all, all-at, among, none-among}
 use Rattle.words.proofs.Spellings.{no-entry, reserved-length}
 
 -- ---- the list of signs
@@ -147,30 +147,16 @@ sign-listed s c h q = go (ltb c 74) refl
 
 -- ---- bytes that are none
 
--- a is none of the keys of a `match`, as the last arm knows it, besides N
-abbrev NoneOf : List ℕ → ℕ → Type 0 → Type 0
-NoneOf [] a N = N
-NoneOf (k ∷ ks) a N = NoneOf ks a (N × (a ≡ k → ⊥))
-
-besides : (ks : List ℕ) (a : ℕ) (N : Type 0) → NoneOf ks a N → N
-besides [] a N n = n
-besides (k ∷ ks) a N n = besides ks a (N × (a ≡ k → ⊥)) n .0
-
 -- the spelling begins with one of the keys
-unfoldable pub keyed : List ℕ → List ℕ → Bool
+abbrev keyed : List ℕ → List ℕ → Bool
 keyed ks [] = false
-keyed [] (c ∷ w) = false
-keyed (k ∷ ks) (c ∷ w) = eqb c k || keyed ks (c ∷ w)
+keyed ks (c ∷ w) = among ks c
 
-not-begun : (ks w : List ℕ) (a : ℕ) (s : List ℕ) (N : Type 0) → NoneOf ks a N → keyed ks w ≡ true → begins w (a ∷ s) ≡ false
-unfolding keyed begins
-not-begun ks [] a s N n t = absurd (false≢true t)
-not-begun [] (c ∷ w) a s N n t = absurd (false≢true t)
-not-begun (k ∷ ks) (c ∷ w) a s N n t =
-    Or·elim (Bool-set _ _)
-    (or-eq-true-iff (eqb c k) (keyed ks (c ∷ w)) .0 t)
-    (λ e. rw (ne-eqb c a (λ q. besides ks a (N × (a ≡ k → ⊥)) n .1 (sym q ∙ eqb-true c k e))))
-    (λ e. not-begun ks (c ∷ w) a s (N × (a ≡ k → ⊥)) n e)
+not-begun : (ks w : List ℕ) (a : ℕ) (s : List ℕ) → NoneOf ks a (Unit {0}) → keyed ks w ≡ true → begins w (a ∷ s) ≡ false
+unfolding begins
+not-begun ks [] a s n t = absurd (false≢true t)
+not-begun ks (c ∷ w) a s n t =
+    rw (ne-eqb c a (λ q. false≢true (sym (none-among ks a (Unit {0}) n) ∙ ap (among ks) (sym q) ∙ t)))
 
 abbrev all-keyed : List ℕ → List Spelled → Bool
 all-keyed ks es = all (λ (e : Spelled). keyed ks (e .spelling)) es
@@ -180,4 +166,4 @@ unfolding signPiece
 no-sign ks [] a s t n = refl
 no-sign ks (e ∷ es) a s t n =
     let f = both (keyed ks (e .spelling)) (all-keyed ks es) t in
-    sign-step e es (a ∷ s) false (not-begun ks (e .spelling) a s (Unit {0}) n (f .0)) ∙ no-sign ks es a s (f .1) n
+    sign-step e es (a ∷ s) false (not-begun ks (e .spelling) a s n (f .0)) ∙ no-sign ks es a s (f .1) n

@@ -9,7 +9,7 @@ use lib.ListN.{length, getD, take, drop}
 use Rattle.paper.specs.declared.Why.the-variants.{NoWord}
 use Rattle.paper.specs.Refusals.{Answer, refused, given, _>>=_}
 use Rattle.paper.specs.Words as W
-use Rattle.paper.specs.Words.{Token, Spelled, Piece, bytes, reserved, signs, isBlank, begins, closed, runOf, parted, allDigits, valueFrom, capital, sameBytes, lookUp, numberPiece, namePiece, signPiece, pieceOf, wordsFrom, wordsOf}
+use Rattle.paper.specs.Words.{Token, Spelled, Piece, bytes, reserved, signs, isBlank, begins, closed, runOf, parted, allDigits, valueFrom, capital, lookUp, numberPiece, namePiece, signPiece, pieceOf, wordsFrom, wordsOf}
 use Rattle.words.specs.declared.Word.{Word}
 use Rattle.words.specs.declared.Gap.{Gap}
 use Rattle.words.specs.declared.Numeral.{Numeral}
@@ -83,9 +83,6 @@ pub record RunEnds (t : List ℕ) (at r : ℕ) : Type 0 where
 pub record IsNumeral (s : List ℕ) (r : Numeral) : Type 0 where
   pub good : r .good ≡ (allDigits s && leb (valueFrom 0 s) 4294967295)
   pub value : r .value ≡ cond (r .good) (valueFrom 0 s) 0
-
-abbrev pub IsEntry : List ℕ → ℕ → ℕ → ℕ → Bool → Type 0
-IsEntry t a e i r = r ≡ sameBytes (entry i .spelling) (folded t a e)
 
 pub record IsRunClass (s : List ℕ) (c : ℕ) : Type 0 where
   pub low : 0 < c

@@ -5,7 +5,8 @@ ghost use mathlib.Core.Bool.{Bool, true, false};
 ghost use lib.ListN.{length, getD, drop, replicate};
 ghost use mathlib.Core.List.{_++_};
 ghost use Rattle.paper.specs.Words.{isBlank, isDigit, inRun, isUnderscore, capital, parted, allDigits, sameBytes};
-ghost use Rattle.words.specs.Denoted.{part, folded, spelledAt, nameAt, NameEnds, CommentEnds, Skips, RunEnds, IsNumeral, IsEntry, IsRunClass, IsSign, IsSignLength, IsNumberAt, IsNameAt, IsWordAt, IsWord, IsFirstBad};
+ghost use Rattle.words.specs.Keys.{keyDigit, keyOf, keywordKeys, operandKeys, Numbered};
+ghost use Rattle.words.specs.Denoted.{part, folded, spelledAt, nameAt, NameEnds, CommentEnds, Skips, RunEnds, IsNumeral, IsRunClass, IsSign, IsSignLength, IsNumberAt, IsNameAt, IsWordAt, IsWord, IsFirstBad};
 
 // The classes of a word. From RESERVED on they number the entries of the list of reserved words, from SIGN on those of the signs.
 pub const ENDING: u8 = 0;
@@ -174,32 +175,98 @@ fn numeral_of(text: &[u8], at: usize, end: usize) -> Numeral
     }
 }
 
-// Whether the run is the reserved word number `i`: the words stand in the order of document 01's list, each with blanks up to 14 bytes, which match no byte.
-fn is_spelled(text: &[u8], at: usize, end: usize, i: usize) -> bool
-    requires { ⌜ (at ≤ end) × (end ≤ length (now text)) × (i < 51) ⌝ }
-    ensures { λ r. ⌜ IsEntry (now (text .entry)) at end i r ⌝ }
+// A byte as a digit of a run's key: A to Z in either case are 1 to 26, the underscore 27, any other 28.
+fn key_digit(b: u8) -> u64
+    ensures { λ r. ⌜ r ≡ keyDigit (capital b) ⌝ }
 {
-    let list =
-        b"PROGRAM       END_PROGRAM   VAR_INPUT     VAR_OUTPUT    VAR           END_VAR       ARRAY         OF            \
-          IF            THEN          ELSIF         ELSE          END_IF        CASE          END_CASE      FOR           \
-          TO            BY            DO            END_FOR       BOOL          INT           UINT          DINT          \
-          UDINT         NOT           MOD           AND           XOR           OR            TRUE          FALSE         \
-          INT_TO_UINT   INT_TO_DINT   INT_TO_UDINT  UINT_TO_INT   UINT_TO_DINT  UINT_TO_UDINT DINT_TO_INT   DINT_TO_UINT  \
-          DINT_TO_UDINT UDINT_TO_INT  UDINT_TO_UINT UDINT_TO_DINT WHILE         END_WHILE     REPEAT        END_REPEAT    \
-          UNTIL         EXIT          RETURN        ";
-    let n = end - at;
-    if 13 < n {
-        return false;
+    let c = folded_byte(b);
+    if 65 <= c && c <= 90 {
+        return c as u64 - 64;
     }
-    let mut j = 0;
-    while j < n {
-        let c = list[14 * i + j];
-        if c == 32 || folded_byte(text[at + j]) != c {
-            return false;
-        }
-        j += 1;
+    if c == 95 { 27 } else { 28 }
+}
+
+// The key of a run: its digits to the base 29, the first the lowest. No other run has a reserved word's key.
+fn key_of(text: &[u8], at: usize, end: usize) -> u64
+    requires { ⌜ (at ≤ end) × (end ≤ length (now text)) × (end - at ≤ 13) ⌝ }
+    ensures { λ r. ⌜ r ≡ keyOf (folded (now (text .entry)) at end) ⌝ }
+{
+    let mut i = end;
+    let mut key: u64 = 0;
+    while at < i {
+        i -= 1;
+        key = key * 29 + key_digit(text[i]);
     }
-    list[14 * i + n] == 32
+    key
+}
+
+// The number, in the list of reserved words, of a word of declarations and statements with this key; 51 where there is none.
+fn keyword_number(key: u64) -> u8
+    ensures { λ r. ⌜ Numbered keywordKeys key r ⌝ }
+{
+    match key {
+        7766129256 => 0, // PROGRAM
+        5492835666975214 => 1, // END_PROGRAM
+        10376987030152 => 2, // VAR_INPUT
+        300936430693961 => 3, // VAR_OUTPUT
+        15189 => 4, // VAR
+        10743553387 => 5, // END_VAR
+        17722075 => 6, // ARRAY
+        189 => 7, // OF
+        183 => 8, // IF
+        345903 => 9, // THEN
+        4479519 => 10, // ELSIF
+        138277 => 11, // ELSE
+        130094701 => 12, // END_IF
+        137956 => 13, // CASE
+        97574319914 => 14, // END_CASE
+        15579 => 15, // FOR
+        455 => 16, // TO
+        727 => 17, // BY
+        439 => 18, // DO
+        11019392977 => 19, // END_FOR
+        3836897 => 44, // WHILE
+        2713765009335 => 45, // END_WHILE
+        411065825 => 46, // REPEAT
+        290739048434103 => 47, // END_REPEAT
+        8724120 => 48, // UNTIL
+        496050 => 49, // EXIT
+        300416296 => 50, // RETURN
+        _ => 51,
+    }
+}
+
+// The same of types, operators, truth values and conversions.
+fn operand_number(key: u64) -> u8
+    ensures { λ r. ⌜ Numbered operandKeys key r ⌝ }
+{
+    match key {
+        305720 => 20, // BOOL
+        17235 => 21, // INT
+        499836 => 22, // UINT
+        499819 => 23, // DINT
+        14494772 => 24, // UDINT
+        17269 => 25, // NOT
+        3812 => 26, // MOD
+        3771 => 27, // AND
+        15597 => 28, // XOR
+        537 => 29, // OR
+        140148 => 30, // TRUE
+        4009923 => 31, // FALSE
+        8622125557503584 => 32, // INT_TO_UINT
+        8621832309606331 => 33, // INT_TO_DINT
+        250033040509874808 => 34, // INT_TO_UDINT
+        8622222026212396 => 35, // UINT_TO_INT
+        250033136978583620 => 36, // UINT_TO_DINT
+        7250958174786369453 => 37, // UINT_TO_UDINT
+        8622222026212379 => 38, // DINT_TO_INT
+        250041641167603940 => 39, // DINT_TO_UINT
+        7250958174786369436 => 40, // DINT_TO_UDINT
+        250044438760159012 => 41, // UDINT_TO_INT
+        7251207593860514281 => 42, // UDINT_TO_UINT
+        7250960972378924508 => 43, // UDINT_TO_DINT
+        _ => 51,
+    }
 }
 
 // The class of a run that is a name or a reserved word.
@@ -207,14 +274,16 @@ fn run_class(text: &[u8], at: usize, end: usize) -> u8
     requires { ⌜ (at ≤ end) × (end ≤ length (now text)) ⌝ }
     ensures { λ r. ⌜ IsRunClass (folded (now (text .entry)) at end) r ⌝ }
 {
-    let mut i: usize = 0;
-    while i < 51 {
-        if is_spelled(text, at, end, i) {
-            return RESERVED + (i as u8);
-        }
-        i += 1;
+    if 13 < end - at {
+        return NAME;
     }
-    NAME
+    let key = key_of(text, at, end);
+    let i = keyword_number(key);
+    if i < 51 {
+        return RESERVED + i;
+    }
+    let j = operand_number(key);
+    if j < 51 { RESERVED + j } else { NAME }
 }
 
 // The byte at a place, 0 beyond the text.
@@ -432,10 +501,15 @@ pub fn name_of(text: &[u8], at: usize) -> &[u8]
     &text[a..e]
 }
 
-// Whether the names at two places are the same, case of letters aside.
+// Whether the names at two places are the same, case of letters aside. Most that differ do in their first bytes.
 pub fn same_name(text: &[u8], a: usize, b: usize) -> bool
     ensures { λ r. ⌜ r ≡ sameBytes (nameAt (now (text .entry)) a) (nameAt (now (text .entry)) b) ⌝ }
 {
+    let x = byte_at(text, a);
+    let y = byte_at(text, b);
+    if in_run(x) && folded_byte(x) != folded_byte(y) {
+        return false;
+    }
     let i = inside(text, a);
     let ie = name_end(text, i);
     let j = inside(text, b);

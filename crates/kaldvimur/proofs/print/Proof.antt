@@ -17,13 +17,13 @@ slice-aggregate-judge-3 c = search needs
 judge-requires : tie.Need-judge-requires
 judge-requires c κs = search needs
 
-why-of-requires : tie.Need-why-of-requires
-why-of-requires c κs = search needs
+refusal-requires : tie.Need-refusal-requires
+refusal-requires c κs = search needs
 
 returns : tie.Need-returns
 returns c =
     let j = c .before .before .before .before .before .before .judge in
-    print-refused _ _ _ _ (j .result) (j .ensures) (c .before .if1 .taken) (c .why-of .result) (c .why-of .ensures) _
+    print-refused _ _ _ _ (j .result) (j .ensures) (c .before .if1 .taken) (c .refusal .result) (c .refusal .ensures) _
 
 slice-aggregate-counted : tie.Need-slice-aggregate-counted
 slice-aggregate-counted c = search needs
@@ -74,7 +74,7 @@ print-spec =
     slice-aggregate-judge-2
     slice-aggregate-judge-3
     judge-requires
-    why-of-requires
+    refusal-requires
     returns
     slice-aggregate-counted
     slice-aggregate-counted-2

@@ -1,73 +1,60 @@
--- `words::run_class` meets its contract. The loop's invariant: no entry before `i` has the run's spelling.
-use mathlib.Core.Path.{_≡_, sym, _∙_}
-use Prim.Native.Nat.{_-_, _≤_}
+-- `words::run_class` meets its contract: the run's key says which reserved word it is, if any.
 use native.Mathlib.Omega.{arith}
 use borrow.Author.Needs.{needs}
-use lib.ListN.{drop}
-use Rattle.paper.specs.Words.{name, lookUp, reserved}
-use Rattle.words.specs.Denoted.{folded, denoted}
-use Rattle.words.proofs.Spellings.{class-word, found, passed, not-found}
+use Rattle.words.specs.Keys.{keywordKeys, operandKeys}
+use Rattle.words.specs.Denoted.{folded}
+use Rattle.words.proofs.Spellings.{folded-length}
+use Rattle.words.proofs.Keys.{long-name, other-name, reserved-word}
 use Rattle.words.proofs.run_class.Statement.{statement}
 use Rattle.words.proofs.run_class.Tie as tie
 
-abbrev Inv-loop : tie.InvT-loop
-Inv-loop text at end i₀ i =
-    (i ≤ 51)
-    × (lookUp reserved (folded text at end) (name (folded text at end)) ≡ lookUp (drop i reserved) (folded text at end) (name (folded text at end)))
+sub-if1 : tie.Need-sub-if1
+sub-if1 c = search needs
 
-abbrev μ-loop : tie.MeasureT-loop
-μ-loop text at end i₀ i = 51 - i
+returns : tie.Need-returns
+returns c =
+    let s = c .before .before in
+    long-name (folded (s .args .text .now) (s .args .at) (s .args .end)) (omega (arith, folded-length (s .args .text .now) (s .args .at) (s .args .end) (s .pre .1)))
 
-loop-holds : tie.Need-loop-holds Inv-loop μ-loop
-loop-holds c = search needs
+key-of-requires : tie.Need-key-of-requires
+key-of-requires c κs = search needs
 
-is-spelled-requires : tie.Need-is-spelled-requires Inv-loop μ-loop
-is-spelled-requires c κs = search needs
+keyword-number-requires : tie.Need-keyword-number-requires
+keyword-number-requires c κs = search needs
 
-cast-result : tie.Need-cast-result Inv-loop μ-loop
-cast-result c = search needs
-
-add-result : tie.Need-add-result Inv-loop μ-loop
+add-result : tie.Need-add-result
 add-result c = search needs
 
-returns : tie.Need-returns Inv-loop μ-loop
-returns c =
-    let l = c .before .before .before in
-    record {
-      low = omega arith;
-      high = omega arith;
-      word = class-word (l .loop .i) 0 _ ∙ sym (l .loop .inv .1 ∙ found (l .loop .i) (omega arith) _ _ (sym (c .before .is-spelled .ensures) ∙ c .if1 .taken));
-    }
+returns-2 : tie.Need-returns-2
+returns-2 c = reserved-word keywordKeys _ (c .before .keyword-number .result) (c .before .before .key-of .ensures) (c .before .keyword-number .ensures) (c .if2 .taken)
 
-add-i : tie.Need-add-i Inv-loop μ-loop
-add-i c = search needs
+operand-number-requires : tie.Need-operand-number-requires
+operand-number-requires c κs = search needs
 
-loop-less : tie.Need-loop-less Inv-loop μ-loop
-loop-less c = search needs
+add-result-2 : tie.Need-add-result-2
+add-result-2 c = search needs
 
-loop-again : tie.Need-loop-again Inv-loop μ-loop
-loop-again c =
-    let l = c .before .before .before in
-    (omega arith, l .loop .inv .1 ∙ passed (l .loop .i) (omega arith) _ _ (sym (c .before .is-spelled .ensures) ∙ c .if1 .left))
+returns-3 : tie.Need-returns-3
+returns-3 c =
+    reserved-word operandKeys _ (c .before .operand-number .result) (c .before .before .before .before .key-of .ensures) (c .before .operand-number .ensures) (c .if3 .taken)
 
-returns-2 : tie.Need-returns-2 Inv-loop μ-loop
-unfolding denoted
-returns-2 c =
-    let l = c .before in
-    record { low = omega arith; high = omega arith; word = sym (l .loop .inv .1 ∙ not-found (l .loop .i) _ _ (omega arith)) }
+returns-4 : tie.Need-returns-4
+returns-4 c =
+    let k = c .before .before .before in
+    other-name _ (k .keyword-number .result) (c .before .operand-number .result) (k .before .key-of .ensures) (k .keyword-number .ensures) (c .before .before .if2 .left)
+    (c .before .operand-number .ensures) (c .if3 .left)
 
 pub run-class-spec : {M : Type 1} → statement M
 run-class-spec =
     tie.close
     (tie.spec
-    Inv-loop
-    μ-loop
-    loop-holds
-    is-spelled-requires
-    cast-result
-    add-result
+    sub-if1
     returns
-    add-i
-    loop-less
-    loop-again
-    returns-2)
+    key-of-requires
+    keyword-number-requires
+    add-result
+    returns-2
+    operand-number-requires
+    add-result-2
+    returns-3
+    returns-4)

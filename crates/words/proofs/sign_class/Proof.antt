@@ -7,7 +7,7 @@ use borrow.Author.Needs.{needs}
 use borrow.Author.Tests.{ne-eqb}
 use Rattle.paper.specs.Words.{bytes, reserved, signs, begins, signPiece}
 use Rattle.words.specs.Denoted.{entries}
-use Rattle.words.proofs.Signs.{is-sign, no-sign, keyed}
+use Rattle.words.proofs.Signs.{is-sign, no-sign}
 use Rattle.words.proofs.sign_class.Statement.{statement}
 use Rattle.words.proofs.sign_class.Tie as tie
 
@@ -157,7 +157,7 @@ unfolding bytes reserved signs begins signPiece entries
 returns-21 c = is-sign 38 _ (c .match .keys16) refl (omega arith) refl
 
 returns-22 : tie.Need-returns-22
-unfolding keyed bytes reserved signs begins signPiece entries
+unfolding bytes reserved signs begins signPiece entries
 returns-22 c = record { high = omega arith; sign = no-sign keys signs (c .before .args .a) (c .before .args .b ∷ []) refl (c .match .rest) }
 
 pub sign-class-spec : {M : Type 1} → statement M

@@ -7,7 +7,6 @@ use lib.Seq.{length-take-le}
 use borrow.Author.Needs.{needs}
 use Rattle.tree.proofs.Decodes.{child-less}
 use Rattle.table.proofs.Binding.{nil-binds, other-binds, both-binds, choice-binds}
-use Prim.Native.Nat.{ℕ, _<_}
 use borrow.Fn.Kinds.{In}
 use borrow.Fn.PlainCycle.{Measures, is, falls, and}
 use Rattle.table.proofs.lists.choice_rows.Reads as choice-rows
@@ -17,7 +16,7 @@ use Rattle.table.proofs.lists.list_rows.Reads as list-rows
 use Rattle.table.proofs.lists.list_rows.Kinds as list-rows-kinds
 use Rattle.table.proofs.lists.+choice_rows+list_rows.Lts-list_rows as list-rows-lts
 use Rattle.table.proofs.lists.assignment_rows.Reads as assignment-rows-reads
-use Rattle.table.proofs.lists.copy.Reads as copy-reads
+use Rattle.table.proofs.standing.copy.Reads as copy-reads
 use Rattle.table.proofs.merging.merge_cells.Reads as merge-cells-reads
 use Rattle.table.proofs.parts.expression_rows.Reads as expression-rows-reads
 use Rattle.tree.proofs.child.Reads as child-reads
@@ -75,26 +74,26 @@ choice-rows-list-rows-requires-2 t c κs =
 
 choice-rows-merge-cells-requires : (t : ℕ) → choice-rows-lts.Need-merge-cells-requires (choice-rows-env t) (choice-rows-at t) choice-rows.Post
 choice-rows-merge-cells-requires t c κs =
-    let A = c .before .before .before .before .before .before .before .before .before .before .before .before .before .before .before .before .before .before .before .before .before .before .before .before .before .before .before .before .before .before .before .before .before .before .before .args in
-    rw (c .before .before .before .before .before .before .before .before .before .before .before .before .before .before .before .before .before .before .child2 .ensures, c .before .before .before .before .before .before .before .before .before .before .child3 .ensures)
-    (omega (arith, c .before .before .before .before .before .before .before .before .before .before .before .before .before .before .before .before .before .before .before .before .before .before .before .before .before .before .before .before .before .before .before .before .before .before .before .pre, c .before .before .before .before .before .before .before .before .before .before .before .before .before .before .before .list-rows .kept .1 .1 .1 .0, c .before .before .before .before .before .before .before .list-rows2 .kept .1 .1 .1 .0, c .before .before .before .before .before .before .before .before .before .before .before .before .before .before .before .before .before .before .before .before .before .before .before .before .before .before .before .copy .kept .1 .0, child-less (A .plain .now) (A .i) 2 (c .before .before .before .before .before .before .before .before .before .before .before .before .before .before .before .before .before .before .before .before .before .before .before .before .before .before .before .before .before .before .before .before .before .before .before .pre .1 .1), child-less (A .plain .now) (A .i) 3 (c .before .before .before .before .before .before .before .before .before .before .before .before .before .before .before .before .before .before .before .before .before .before .before .before .before .before .before .before .before .before .before .before .before .before .before .pre .1 .1)))
+    let A = c .before .before .before .before .before .before .before .before .before .before .before .before .before .before .before .before .before .before .before .before .before .before .before .before .before .before .before .before .before .before .before .before .before .before .before .before .args in
+    rw (c .before .before .before .before .before .before .before .before .before .before .before .before .before .before .before .before .before .before .before .child2 .ensures, c .before .before .before .before .before .before .before .before .before .before .before .child3 .ensures)
+    (omega (arith, c .before .before .before .before .before .before .before .before .before .before .before .before .before .before .before .before .before .before .before .before .before .before .before .before .before .before .before .before .before .before .before .before .before .before .before .before .pre, c .before .before .before .before .before .before .before .before .before .before .before .before .before .before .before .before .list-rows .kept .1 .1 .1 .0, c .before .before .before .before .before .before .before .before .list-rows2 .kept .1 .1 .1 .0, c .before .before .before .before .before .before .before .before .before .before .before .before .before .before .before .before .before .before .before .before .before .before .before .before .before .before .before .before .copy .kept .1 .0, child-less (A .plain .now) (A .i) 2 (c .before .before .before .before .before .before .before .before .before .before .before .before .before .before .before .before .before .before .before .before .before .before .before .before .before .before .before .before .before .before .before .before .before .before .before .before .pre .1 .1), child-less (A .plain .now) (A .i) 3 (c .before .before .before .before .before .before .before .before .before .before .before .before .before .before .before .before .before .before .before .before .before .before .before .before .before .before .before .before .before .before .before .before .before .before .before .before .pre .1 .1)))
 
 choice-rows-same-length : (t : ℕ) → choice-rows-lts.Need-same-length (choice-rows-env t) (choice-rows-at t) choice-rows.Post
 choice-rows-same-length t c = search needs
 
 choice-rows-same-length-2 : (t : ℕ) → choice-rows-lts.Need-same-length-2 (choice-rows-env t) (choice-rows-at t) choice-rows.Post
-choice-rows-same-length-2 t c = omega (arith, c .before .before .before .before .before .before .before .before .before .before .before .before .list-rows2 .kept .1 .1 .1 .0, c .before .before .before .before .before .before .before .before .before .before .before .before .before .before .before .before .before .before .before .before .before .before .before .before .before .before .before .before .before .before .before .before .copy .kept .1 .0)
+choice-rows-same-length-2 t c = omega (arith, c .before .before .before .before .before .before .before .before .before .before .before .before .before .list-rows2 .kept .1 .1 .1 .0, c .before .before .before .before .before .before .before .before .before .before .before .before .before .before .before .before .before .before .before .before .before .before .before .before .before .before .before .before .before .before .before .before .before .copy .kept .1 .0)
 
 choice-rows-same-length-3 : (t : ℕ) → choice-rows-lts.Need-same-length-3 (choice-rows-env t) (choice-rows-at t) choice-rows.Post
 choice-rows-same-length-3 t c = search needs
 
 choice-rows-returns : (t : ℕ) → choice-rows-lts.Need-returns (choice-rows-env t) (choice-rows-at t) choice-rows.Post
 choice-rows-returns t c =
-    let A = c .before .before .before .before .before .before .before .before .before .before .before .before .before .before .before .before .before .before .before .before .before .before .before .before .before .before .before .before .before .before .before .before .before .before .before .before .before .before .before .before .args in
-    choice-binds (A .infos .now) (A .plain .now) (A .env .now) (A .i) (c .before .before .before .before .before .before .before .before .before .before .before .before .before .before .before .before .before .before .before .before .before .before .before .before .before .before .before .before .before .before .before .before .before .before .before .before .before .before .before .before .pre .1 .1) (c .before .before .before .before .merge-cells .last .1 .1 .1 .1 .1 .0) (A .rows .now) _ (A .count) _ (c .before .before .before .before .before .before .before .before .before .before .before .before .before .before .before .before .before .before .before .before .before .before .before .before .before .before .before .before .before .before .before .before .before .before .before .before .before .before .before .before .pre .1 .2)
-    _ _ _ _ _ (c .before .before .before .before .before .before .before .before .before .before .before .before .before .before .before .before .before .before .before .before .list-rows .last .1 .1 .1 .0) (c .before .before .before .before .before .before .before .before .before .before .before .before .list-rows2 .last .1 .1 .1 .0) _ _
-    (rw (c .before .before .before .before .before .before .before .before .before .before .before .before .before .before .before .before .before .before .before .before .before .before .before .before .before .before .before .before .before .child .ensures) at (c .before .before .before .before .before .before .before .before .before .before .before .before .before .before .before .before .before .before .before .before .before .before .before .before .before .before .expression-rows .ensures)) (rw (c .before .before .before .before .before .before .before .before .before .before .before .before .before .before .before .before .before .before .before .before .before .before .before .child2 .ensures) at (c .before .before .before .before .before .before .before .before .before .before .before .before .before .before .before .before .before .before .before .before .list-rows .ensures))
-    (c .before .before .before .before .before .before .before .before .before .before .before .before .before .before .before .before .before .before .before .before .before .before .before .before .before .before .before .before .before .before .before .before .copy .ensures) (rw (c .before .before .before .before .before .before .before .before .before .before .before .before .before .before .before .child3 .ensures) at (c .before .before .before .before .before .before .before .before .before .before .before .before .list-rows2 .ensures)) (rw (c .before .before .before .before .before .before .before .before .before .before .before .before .before .before .before .before .before .before .before .before .before .before .before .child2 .ensures, c .before .before .before .before .before .before .before .before .before .before .before .before .before .before .before .child3 .ensures) at (c .before .before .before .before .merge-cells .ensures))
+    let A = c .before .before .before .before .before .before .before .before .before .before .before .before .before .before .before .before .before .before .before .before .before .before .before .before .before .before .before .before .before .before .before .before .before .before .before .before .before .before .before .before .before .args in
+    choice-binds (A .infos .now) (A .plain .now) (A .env .now) (A .i) (c .before .before .before .before .before .before .before .before .before .before .before .before .before .before .before .before .before .before .before .before .before .before .before .before .before .before .before .before .before .before .before .before .before .before .before .before .before .before .before .before .before .pre .1 .1) (c .before .before .before .before .merge-cells .last .1 .1 .1 .1 .1 .0) (A .rows .now) _ (A .count) _ (c .before .before .before .before .before .before .before .before .before .before .before .before .before .before .before .before .before .before .before .before .before .before .before .before .before .before .before .before .before .before .before .before .before .before .before .before .before .before .before .before .before .pre .1 .2)
+    _ _ _ _ _ (c .before .before .before .before .before .before .before .before .before .before .before .before .before .before .before .before .before .before .before .before .before .list-rows .last .1 .1 .1 .0) (c .before .before .before .before .before .before .before .before .before .before .before .before .before .list-rows2 .last .1 .1 .1 .0) _ _
+    (rw (c .before .before .before .before .before .before .before .before .before .before .before .before .before .before .before .before .before .before .before .before .before .before .before .before .before .before .before .before .before .before .child .ensures) at (c .before .before .before .before .before .before .before .before .before .before .before .before .before .before .before .before .before .before .before .before .before .before .before .before .before .before .before .expression-rows .ensures)) (rw (c .before .before .before .before .before .before .before .before .before .before .before .before .before .before .before .before .before .before .before .before .before .before .before .before .child2 .ensures) at (c .before .before .before .before .before .before .before .before .before .before .before .before .before .before .before .before .before .before .before .before .before .list-rows .ensures))
+    (c .before .before .before .before .before .before .before .before .before .before .before .before .before .before .before .before .before .before .before .before .before .before .before .before .before .before .before .before .before .before .before .before .before .copy .ensures) (rw (c .before .before .before .before .before .before .before .before .before .before .before .before .before .before .before .before .child3 .ensures) at (c .before .before .before .before .before .before .before .before .before .before .before .before .before .list-rows2 .ensures)) (rw (c .before .before .before .before .before .before .before .before .before .before .before .before .before .before .before .before .before .before .before .before .before .before .before .before .child2 .ensures, c .before .before .before .before .before .before .before .before .before .before .before .before .before .before .before .before .child3 .ensures) at (c .before .before .before .before .merge-cells .ensures))
 
 abbrev list-rows-env : ℕ → list-rows-lts.Claims
 list-rows-env t = (word-reads.Asked, word-reads.Learnt, assignment-rows-reads.Asked, assignment-rows-reads.Learnt, choice-rows-below t, choice-rows.Post, child-reads.Asked, child-reads.Learnt, list-rows-below t, list-rows.Post)

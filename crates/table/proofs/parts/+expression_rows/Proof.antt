@@ -12,7 +12,8 @@ use Rattle.table.proofs.parts.expression_rows.Kinds as expression-rows-
 use Rattle.table.proofs.parts.+expression_rows.Lts-expression_rows as expression-rows-lts
 use Rattle.table.proofs.parts.leaf.Reads as leaf-reads
 use Rattle.table.proofs.parts.operator_head.Reads as operator-head-reads
-use Rattle.table.proofs.parts.push.Reads as push-reads
+use Rattle.table.proofs.records.push_one.Reads as push-one-reads
+use Rattle.table.proofs.records.push_two.Reads as push-two-reads
 use Rattle.tree.proofs.child.Reads as child-reads
 use Rattle.tree.proofs.kind.Reads as kind-reads
 use Rattle.table.proofs.parts.+expression_rows.{statement}
@@ -28,7 +29,7 @@ abbrev expression-rows-below : ℕ → In 3 expression-rows-kinds.ps
 expression-rows-below t = and 3 expression-rows-kinds.ps (falls 3 expression-rows-kinds.ps _<_ μ-expression-rows t) expression-rows.Pre
 
 abbrev expression-rows-env : ℕ → expression-rows-lts.Claims
-expression-rows-env t = (kind-reads.Asked, kind-reads.Learnt, leaf-reads.Asked, leaf-reads.Learnt, operator-head-reads.Asked, operator-head-reads.Learnt, child-reads.Asked, child-reads.Learnt, expression-rows-below t, expression-rows.Post, push-reads.Asked, push-reads.Learnt)
+expression-rows-env t = (kind-reads.Asked, kind-reads.Learnt, leaf-reads.Asked, leaf-reads.Learnt, operator-head-reads.Asked, operator-head-reads.Learnt, child-reads.Asked, child-reads.Learnt, expression-rows-below t, expression-rows.Post, push-one-reads.Asked, push-one-reads.Learnt, push-two-reads.Asked, push-two-reads.Learnt)
 
 expression-rows-kind-requires : (t : ℕ) → expression-rows-lts.Need-kind-requires (expression-rows-env t) (expression-rows-at t) expression-rows.Post
 expression-rows-kind-requires t c κs = c .before .before .before .pre .1
@@ -72,11 +73,8 @@ expression-rows-expression-rows-requires t c κs =
     let s : 0 < A .i = some-node (A .plain .now) (A .i) _ (c .before .before .before .before .before .before .kind .ensures) (omega (arith, c .before .before .before .before .before .if1 .left)) in
     rw (c .before .child .ensures) (omega (arith, c .before .before .before .before .before .before .before .before .before .before .pre, child-less (A .plain .now) (A .i) 1 s))
 
-expression-rows-cast-a : (t : ℕ) → expression-rows-lts.Need-cast-a (expression-rows-env t) (expression-rows-at t) expression-rows.Post
-expression-rows-cast-a t c = search needs
-
-expression-rows-push-requires : (t : ℕ) → expression-rows-lts.Need-push-requires (expression-rows-env t) (expression-rows-at t) expression-rows.Post
-expression-rows-push-requires t c κs = search needs
+expression-rows-push-one-requires : (t : ℕ) → expression-rows-lts.Need-push-one-requires (expression-rows-env t) (expression-rows-at t) expression-rows.Post
+expression-rows-push-one-requires t c κs = search needs
 
 expression-rows-same-length-4 : (t : ℕ) → expression-rows-lts.Need-same-length-4 (expression-rows-env t) (expression-rows-at t) expression-rows.Post
 expression-rows-same-length-4 t c = search needs
@@ -85,7 +83,7 @@ expression-rows-returns-4 : (t : ℕ) → expression-rows-lts.Need-returns-4 (ex
 expression-rows-returns-4 t c =
     let A = c .before .before .before .before .before .before .before .before .before .before .before .before .before .before .before .before .before .before .before .args in
     one-made (A .env .now) (A .plain .now) (A .i) _ (c .before .before .before .before .before .before .before .before .before .before .before .before .before .before .before .kind .ensures) _ _ _ (A .count) _ _ _ (c .before .before .before .before .before .before .before .before .before .before .before .operator-head .ensures) (rw (c .before .before .before .before .before .before .before .before .before .before .child .ensures) at (c .before .before .before .before .before .before .before .before .expression-rows .ensures))
-    (omega (arith, c .before .before .before .before .before .before .before .before .before .before .before .before .before .before .if1 .left)) (c .before .before .before .before .if4 .taken) (c .before .before .before .before .before .before .before .before .before .before .before .before .before .if2 .left) (c .before .before .push .ensures)
+    (omega (arith, c .before .before .before .before .before .before .before .before .before .before .before .before .before .before .if1 .left)) (c .before .before .before .before .if4 .taken) (c .before .before .before .before .before .before .before .before .before .before .before .before .before .if2 .left) (c .before .before .push-one .ensures)
 
 expression-rows-child-requires-2 : (t : ℕ) → expression-rows-lts.Need-child-requires-2 (expression-rows-env t) (expression-rows-at t) expression-rows.Post
 expression-rows-child-requires-2 t c κs = (c .before .before .before .before .before .before .before .before .before .before .before .before .before .before .before .pre .1, omega arith)
@@ -96,11 +94,8 @@ expression-rows-expression-rows-requires-2 t c κs =
     let s : 0 < A .i = some-node (A .plain .now) (A .i) _ (c .before .before .before .before .before .before .before .before .before .before .before .before .before .kind .ensures) (omega (arith, c .before .before .before .before .before .before .before .before .before .before .before .before .if1 .left)) in
     rw (c .before .child2 .ensures) (omega (arith, c .before .before .before .before .before .before .before .before .before .before .before .before .before .before .before .before .before .pre, child-less (A .plain .now) (A .i) 2 s))
 
-expression-rows-cast-push : (t : ℕ) → expression-rows-lts.Need-cast-push (expression-rows-env t) (expression-rows-at t) expression-rows.Post
-expression-rows-cast-push t c = search needs
-
-expression-rows-push-requires-2 : (t : ℕ) → expression-rows-lts.Need-push-requires-2 (expression-rows-env t) (expression-rows-at t) expression-rows.Post
-expression-rows-push-requires-2 t c κs = search needs
+expression-rows-push-two-requires : (t : ℕ) → expression-rows-lts.Need-push-two-requires (expression-rows-env t) (expression-rows-at t) expression-rows.Post
+expression-rows-push-two-requires t c κs = search needs
 
 expression-rows-same-length-5 : (t : ℕ) → expression-rows-lts.Need-same-length-5 (expression-rows-env t) (expression-rows-at t) expression-rows.Post
 expression-rows-same-length-5 t c = search needs
@@ -109,7 +104,7 @@ expression-rows-returns-5 : (t : ℕ) → expression-rows-lts.Need-returns-5 (ex
 expression-rows-returns-5 t c =
     let A = c .before .before .before .before .before .before .before .before .before .before .before .before .before .before .before .before .before .before .before .before .before .before .before .before .before .args in
     two-made (A .env .now) (A .plain .now) (A .i) _ (c .before .before .before .before .before .before .before .before .before .before .before .before .before .before .before .before .before .before .before .before .before .kind .ensures) _ _ _ (A .count) _ _ _ (c .before .before .before .before .before .before .before .before .before .before .before .before .before .before .before .before .before .operator-head .ensures) (rw (c .before .before .before .before .before .before .before .before .before .before .before .before .before .before .before .before .child .ensures) at (c .before .before .before .before .before .before .before .before .before .before .before .before .before .before .expression-rows .ensures))
-    (omega (arith, c .before .before .before .before .before .before .before .before .before .before .if4 .left)) (omega (arith, c .before .before .before .before .before .before .before .before .before .before .before .before .before .before .before .before .before .before .if3 .left)) _ _ (rw (c .before .before .before .before .before .before .before .before .before .child2 .ensures) at (c .before .before .before .before .before .before .before .expression-rows2 .ensures)) (c .before .before .push2 .ensures)
+    (omega (arith, c .before .before .before .before .before .before .before .before .before .before .if4 .left)) (omega (arith, c .before .before .before .before .before .before .before .before .before .before .before .before .before .before .before .before .before .before .if3 .left)) _ _ (rw (c .before .before .before .before .before .before .before .before .before .child2 .ensures) at (c .before .before .before .before .before .before .before .expression-rows2 .ensures)) (c .before .before .push-two .ensures)
 
 pub +expression-rows-spec : {M : Type 1} → statement M
-+expression-rows-spec = close μ-expression-rows λ t. expression-rows-lts.spec (expression-rows-env t) (expression-rows-at t) expression-rows.Post (expression-rows-kind-requires t) (expression-rows-leaf-requires t) (expression-rows-same-length t) (expression-rows-returns t) (expression-rows-leaf-requires-2 t) (expression-rows-same-length-2 t) (expression-rows-returns-2 t) (expression-rows-leaf-requires-3 t) (expression-rows-same-length-3 t) (expression-rows-returns-3 t) (expression-rows-operator-head-requires t) (expression-rows-child-requires t) (expression-rows-expression-rows-requires t) (expression-rows-cast-a t) (expression-rows-push-requires t) (expression-rows-same-length-4 t) (expression-rows-returns-4 t) (expression-rows-child-requires-2 t) (expression-rows-expression-rows-requires-2 t) (expression-rows-cast-push t) (expression-rows-push-requires-2 t) (expression-rows-same-length-5 t) (expression-rows-returns-5 t)
++expression-rows-spec = close μ-expression-rows λ t. expression-rows-lts.spec (expression-rows-env t) (expression-rows-at t) expression-rows.Post (expression-rows-kind-requires t) (expression-rows-leaf-requires t) (expression-rows-same-length t) (expression-rows-returns t) (expression-rows-leaf-requires-2 t) (expression-rows-same-length-2 t) (expression-rows-returns-2 t) (expression-rows-leaf-requires-3 t) (expression-rows-same-length-3 t) (expression-rows-returns-3 t) (expression-rows-operator-head-requires t) (expression-rows-child-requires t) (expression-rows-expression-rows-requires t) (expression-rows-push-one-requires t) (expression-rows-same-length-4 t) (expression-rows-returns-4 t) (expression-rows-child-requires-2 t) (expression-rows-expression-rows-requires-2 t) (expression-rows-push-two-requires t) (expression-rows-same-length-5 t) (expression-rows-returns-5 t)

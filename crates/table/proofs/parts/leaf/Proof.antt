@@ -6,6 +6,7 @@ use mir.Facts.{toZ-ofZ}
 use lib.ListN.{getD}
 use Rattle.paper.specs.declared.Ty.the-variants.{Bool as BOOL}
 use Rattle.paper.specs.Types.{encode}
+use Rattle.paper.specs.Tables.{row}
 use Rattle.tree.specs.Trees.{types}
 use Rattle.table.proofs.Pushing.{number-made, true-made, false-made, read-made}
 use borrow.Author.Needs.{needs}
@@ -15,19 +16,16 @@ use Rattle.table.proofs.parts.leaf.Tie as tie
 word-requires : tie.Need-word-requires
 word-requires c κs = search needs
 
-cast-row-of : tie.Need-cast-row-of
-cast-row-of c = search needs
-
 row-of-requires : tie.Need-row-of-requires
 row-of-requires c κs = search needs
 
 returns : tie.Need-returns
 returns c =
     let A = c .before .before .before .before .before .before .args in
-    read-made (A .env .now) (A .plain .now) (A .i) (A .k) (c .before .before .before .before .before .before .pre .1) (c .before .before .if1 .taken) (A .rows .now) (A .count) _ (c .row-of .ensures ∙ ap (λ w. getD (A .env .now) w 0) (c .before .word .ensures))
+    read-made (A .env .now) (A .plain .now) (A .i) (A .k) (c .before .before .before .before .before .before .pre .1) (c .before .before .if1 .taken) (A .rows .now) (A .count) _ (c .row-of .ensures ∙ ap (λ w. row (getD (A .env .now) w 0)) (c .before .word .ensures))
 
-push-requires : tie.Need-push-requires
-push-requires c κs = search needs
+push-number-requires : tie.Need-push-number-requires
+push-number-requires c κs = search needs
 
 same-length : tie.Need-same-length
 same-length c = search needs
@@ -35,10 +33,10 @@ same-length c = search needs
 returns-2 : tie.Need-returns-2
 returns-2 c =
     let A = c .before .before .before .before .before .before .before .before .before .args in
-    true-made (A .env .now) (A .plain .now) (A .i) (A .k) (c .before .before .before .before .before .before .before .before .before .pre .1) _ _ (A .count) _ (c .before .before .before .before .if2 .taken) (c .before .before .push .ensures)
+    true-made (A .env .now) (A .plain .now) (A .i) (A .k) (c .before .before .before .before .before .before .before .before .before .pre .1) _ _ (A .count) _ (c .before .before .before .before .if2 .taken) (c .before .before .push-number .ensures)
 
-push-requires-2 : tie.Need-push-requires-2
-push-requires-2 c κs = search needs
+push-number-requires-2 : tie.Need-push-number-requires-2
+push-number-requires-2 c κs = search needs
 
 same-length-2 : tie.Need-same-length-2
 same-length-2 c = search needs
@@ -47,10 +45,10 @@ returns-3 : tie.Need-returns-3
 returns-3 c =
     let A = c .before .before .before .before .before .before .before .before .before .before .args in
     let z : A .k ≡ 0 = c .before .before .before .before .if3 .taken in
-    false-made (A .env .now) (A .plain .now) (A .i) (A .k) (c .before .before .before .before .before .before .before .before .before .before .pre .1) _ _ (A .count) _ (λ e. omega arith) (λ e. omega arith) (λ e. omega arith) (λ e. omega arith) (c .before .before .before .before .before .before .before .before .before .before .pre .2) (c .before .before .push2 .ensures)
+    false-made (A .env .now) (A .plain .now) (A .i) (A .k) (c .before .before .before .before .before .before .before .before .before .before .pre .1) _ _ (A .count) _ (λ e. omega arith) (λ e. omega arith) (λ e. omega arith) (λ e. omega arith) (c .before .before .before .before .before .before .before .before .before .before .pre .2) (c .before .before .push-number2 .ensures)
 
-push-requires-3 : tie.Need-push-requires-3
-push-requires-3 c κs = search needs
+push-number-requires-3 : tie.Need-push-number-requires-3
+push-number-requires-3 c κs = search needs
 
 same-length-3 : tie.Need-same-length-3
 same-length-3 c = search needs
@@ -58,7 +56,7 @@ same-length-3 c = search needs
 returns-4 : tie.Need-returns-4
 returns-4 c =
     let A = c .before .before .before .before .before .before .before .before .before .before .before .args in
-    false-made (A .env .now) (A .plain .now) (A .i) (A .k) (c .before .before .before .before .before .before .before .before .before .before .before .pre .1) _ _ (A .count) _ (λ e. omega (arith, c .before .before .before .before .if4 .taken)) (λ e. omega (arith, c .before .before .before .before .if4 .taken)) (c .before .before .before .before .before .before .if2 .left) (c .before .before .before .before .before .before .before .if1 .left) (c .before .before .before .before .before .before .before .before .before .before .before .pre .2) (c .before .before .push3 .ensures)
+    false-made (A .env .now) (A .plain .now) (A .i) (A .k) (c .before .before .before .before .before .before .before .before .before .before .before .pre .1) _ _ (A .count) _ (λ e. omega (arith, c .before .before .before .before .if4 .taken)) (λ e. omega (arith, c .before .before .before .before .if4 .taken)) (c .before .before .before .before .before .before .if2 .left) (c .before .before .before .before .before .before .before .if1 .left) (c .before .before .before .before .before .before .before .before .before .before .before .pre .2) (c .before .before .push-number3 .ensures)
 
 word-requires-2 : tie.Need-word-requires-2
 word-requires-2 c κs = search needs
@@ -75,8 +73,8 @@ whole-requires c κs = search needs
 residue-of-requires : tie.Need-residue-of-requires
 residue-of-requires c κs = search needs
 
-push-requires-4 : tie.Need-push-requires-4
-push-requires-4 c κs = search needs
+push-number-requires-4 : tie.Need-push-number-requires-4
+push-number-requires-4 c κs = search needs
 
 same-length-4 : tie.Need-same-length-4
 same-length-4 c = search needs
@@ -84,23 +82,22 @@ same-length-4 c = search needs
 returns-5 : tie.Need-returns-5
 returns-5 c =
     let A = c .before .before .before .before .before .before .before .before .before .before .before .before .before .before .before .before .args in
-    number-made (A .env .now) (A .plain .now) (A .i) (A .k) (c .before .before .before .before .before .before .before .before .before .before .before .before .before .before .before .before .pre .1) _ _ (A .count) _ (omega (arith, c .before .before .before .before .before .before .before .before .before .before .if3 .left)) (omega (arith, c .before .before .before .before .before .before .before .before .before .if4 .left)) _ _ _ (c .before .before .before .before .before .before .before .type-at .ensures ∙ ap (λ w. getD types w BOOL) (c .before .before .before .before .before .before .before .before .word2 .ensures)) (c .before .before .before .before .before .head .ensures) (c .before .before .before .residue-of .ensures ∙ ap (encode (c .before .before .before .before .before .before .before .type-at .result)) (toZ-ofZ {w = w64} (record { sfits = c .before .before .before .before .whole .ok }) ∙ c .before .before .before .before .whole .ensures)) (c .before .before .push4 .ensures)
+    number-made (A .env .now) (A .plain .now) (A .i) (A .k) (c .before .before .before .before .before .before .before .before .before .before .before .before .before .before .before .before .pre .1) _ _ (A .count) _ (omega (arith, c .before .before .before .before .before .before .before .before .before .before .if3 .left)) (omega (arith, c .before .before .before .before .before .before .before .before .before .if4 .left)) _ _ _ (c .before .before .before .before .before .before .before .type-at .ensures ∙ ap (λ w. getD types w BOOL) (c .before .before .before .before .before .before .before .before .word2 .ensures)) (c .before .before .before .before .before .head .ensures) (c .before .before .before .residue-of .ensures ∙ ap (encode (c .before .before .before .before .before .before .before .type-at .result)) (toZ-ofZ {w = w64} (record { sfits = c .before .before .before .before .whole .ok }) ∙ c .before .before .before .before .whole .ensures)) (c .before .before .push-number4 .ensures)
 
 pub leaf-spec : {M : Type 1} → statement M
 leaf-spec =
     tie.close
     (tie.spec
     word-requires
-    cast-row-of
     row-of-requires
     returns
-    push-requires
+    push-number-requires
     same-length
     returns-2
-    push-requires-2
+    push-number-requires-2
     same-length-2
     returns-3
-    push-requires-3
+    push-number-requires-3
     same-length-3
     returns-4
     word-requires-2
@@ -108,6 +105,6 @@ leaf-spec =
     head-requires
     whole-requires
     residue-of-requires
-    push-requires-4
+    push-number-requires-4
     same-length-4
     returns-5)

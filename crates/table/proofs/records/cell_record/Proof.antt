@@ -10,6 +10,9 @@ add-result c = search needs
 returns : tie.Need-returns
 returns c = input-record (c .before .args .info) (c .before .args .next) (c .if1 .taken)
 
+cast-result : tie.Need-cast-result
+cast-result c = search needs
+
 add-result-2 : tie.Need-add-result-2
 add-result-2 c = search needs
 
@@ -20,8 +23,8 @@ add-result-3 : tie.Need-add-result-3
 add-result-3 c = search needs
 
 returns-2 : tie.Need-returns-2
-returns-2 c = other-record (c .before .args .info) (c .before .args .next) (c .if1 .left)
+returns-2 c = other-record (c .before .before .args .info) (c .before .before .args .next) (c .before .if1 .left)
 
 pub cell-record-spec : {M : Type 1} → statement M
 cell-record-spec =
-    tie.close (tie.spec add-result returns add-result-2 mul-result add-result-3 returns-2)
+    tie.close (tie.spec add-result returns cast-result add-result-2 mul-result add-result-3 returns-2)

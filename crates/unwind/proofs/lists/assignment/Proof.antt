@@ -31,8 +31,8 @@ first-word-requires : tie.Need-first-word-requires
 first-word-requires c κs =
     omega (arith, child-most (c .before .before .before .before .before .before .before .before .before .before .before .before .before .before .before .before .args .pool .now) (c .before .before .before .before .before .before .before .before .before .before .before .before .before .before .before .before .args .i) 1, c .before .before .before .before .before .before .before .before .before .before .child .ensures, c .before .before .before .before .before .before .before .before .before .before .before .before .before .before .before .before .pre)
 
-cast-assigned : tie.Need-cast-assigned
-cast-assigned c =
+cast-t23 : tie.Need-cast-t23
+cast-t23 c =
     omega (arith, c .before .before .before .before .before .before .before .before .if2 .taken, c .before .before .before .before .before .before .before .before .before .before .before .before .before .before .before .before .before .pre)
 
 assigned-requires : tie.Need-assigned-requires
@@ -44,7 +44,7 @@ same-length c = search needs
 
 returns : tie.Need-returns
 returns c =
-    assign-did (c .before .before .before .before .before .before .before .before .before .before .before .before .before .before .before .before .before .before .before .before .args .text .now) (c .before .before .before .before .before .before .before .before .before .before .before .before .before .before .before .before .before .before .before .before .args .pool .now) (c .before .before .before .before .before .before .before .before .before .before .before .before .before .before .before .before .before .before .before .before .args .table .now) (c .before .before .before .before .before .before .before .before .before .before .before .before .before .before .before .before .before .before .before .before .args .env .now) (c .before .before .before .before .before .before .before .before .before .before .before .before .before .before .before .before .before .before .before .before .args .i) (c .before .before .before .before .before .before .before .before .before .before .before .before .before .before .before .before .before .before .before .before .args .count) (c .before .before .before .before .before .before .before .before .before .before .before .before .before .before .before .before .before .before .before .before .args .weight) _ (c .before .before .before .before .before .before .before .before .before .before .before .before .before .before .child .ensures) (c .before .before .before .before .before .before .before .before .before .before .before .before .before .before .before .before .before .before .before .before .args .out .now) (c .before .before .assigned .result) _ _ (c .before .before .before .before .before .before .before .before .before .before .before .before .before .cell-of .result .cell) (c .before .before .before .first-word .result) _ (c .before .before .before .before .before .before .before .before .before .before .type-in .result) (c .before .before .before .before .before .before .before .plain-of .result) (sym (given-as (c .before .before .before .before .before .before .before .before .before .before .before .before .before .cell-of .result .some) true _ (c .before .before .before .before .before .before .before .before .before .before .before .before .if1 .taken)) ∙ c .before .before .before .before .before .before .before .before .before .before .before .before .before .cell-of .ensures) (c .before .before .before .before .before .before .before .before .before .before .type-in .ensures) (c .before .before .before .first-word .ensures (c .before .before .before .before .before .before .before .before .before .before .before .before .before .before .before .before .before .before .before .before .args .text .now)) (c .before .before .before .before .before .before .before .before .before .child2 .ensures) (c .before .before .before .before .before .before .before .plain-of .ensures) (c .before .before .assigned .ensures) (c .before .before .before .before .before .before .before .before .before .before .before .before .before .before .before .before .before .before .before .before .pre .1 .0)
+    assign-did (c .before .before .before .before .before .before .before .before .before .before .before .before .before .before .before .before .before .before .before .before .args .text .now) (c .before .before .before .before .before .before .before .before .before .before .before .before .before .before .before .before .before .before .before .before .args .pool .now) (c .before .before .before .before .before .before .before .before .before .before .before .before .before .before .before .before .before .before .before .before .args .table .now) (c .before .before .before .before .before .before .before .before .before .before .before .before .before .before .before .before .before .before .before .before .args .env .now) (c .before .before .before .before .before .before .before .before .before .before .before .before .before .before .before .before .before .before .before .before .args .i) (c .before .before .before .before .before .before .before .before .before .before .before .before .before .before .before .before .before .before .before .before .args .count) (c .before .before .before .before .before .before .before .before .before .before .before .before .before .before .before .before .before .before .before .before .args .weight) _ (c .before .before .before .before .before .before .before .before .before .before .before .before .before .before .child .ensures) (c .before .before .before .before .before .before .before .before .before .before .before .before .before .before .before .before .before .before .before .before .args .out .now) (c .before .before .assigned .result) _ _ (record { 0 = c .before .before .before .before .before .before .before .before .before .before .before .before .before .cell-of .result .cell }) (c .before .before .before .first-word .result) _ (c .before .before .before .before .before .before .before .before .before .before .type-in .result) (c .before .before .before .before .before .before .before .plain-of .result) (sym (given-as (c .before .before .before .before .before .before .before .before .before .before .before .before .before .cell-of .result .some) true _ (c .before .before .before .before .before .before .before .before .before .before .before .before .if1 .taken)) ∙ c .before .before .before .before .before .before .before .before .before .before .before .before .before .cell-of .ensures) (c .before .before .before .before .before .before .before .before .before .before .type-in .ensures) (c .before .before .before .first-word .ensures (c .before .before .before .before .before .before .before .before .before .before .before .before .before .before .before .before .before .before .before .before .args .text .now)) (c .before .before .before .before .before .before .before .before .before .child2 .ensures) (c .before .before .before .before .before .before .before .plain-of .ensures) (c .before .before .assigned .ensures) (c .before .before .before .before .before .before .before .before .before .before .before .before .before .before .before .before .before .before .before .before .pre .1 .0)
 
 bracket-of-requires : tie.Need-bracket-of-requires
 bracket-of-requires c κs =
@@ -78,7 +78,7 @@ assignment-spec =
     child-requires-2
     plain-of-requires
     first-word-requires
-    cast-assigned
+    cast-t23
     assigned-requires
     same-length
     returns
