@@ -1,4 +1,4 @@
--- What acceptance gives: a short text that was read, no fault of names or types, and what the walk gave.
+-- What acceptance gives: a short text that was read, no fault of names, types or heights, and what the walk gave.
 use mathlib.Core.Path.{_≡_, refl, sym}
 use mathlib.Core.Bool.{Bool, true, false}
 use mathlib.Core.Option.{Option, none, some}
@@ -62,7 +62,9 @@ pub record Accepted (text : List ℕ) (a : Sound) : Type 0 where
   pub read : programOf words ≡ given program
   pub declared : N.declarationFaults [] 0 (program .declared) ≡ []
   pub named : N.statementFaults (variablesOf (program .declared)) (program .body) [] ≡ []
+  pub valued : T.declarationFaults (program .declared) ≡ []
   pub typed : T.statementFaults (variablesOf (program .declared)) (program .body) [] (some DINT) ≡ []
+  pub low : heightFaults program ≡ []
   pub walk : unwoundProgram program ≡ given walked
   pub is : soundOf program walked ≡ a
 
@@ -93,7 +95,9 @@ accepted text a h =
       read = hp;
       declared = names .0;
       named = names .1;
+      valued = types .0;
       typed = types .1;
+      low = faultless-none TooHigh (heightFaults pr) l hl;
       walk = hu;
       is = given-same {a = soundOf pr u} h₇;
     }

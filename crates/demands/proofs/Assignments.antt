@@ -28,7 +28,7 @@ use Rattle.demands.proofs.Targets.{aims, aimed}
 use Rattle.demands.proofs.Means.{Vars, Means, free-cell}
 
 -- numbers that take the type that is demanded take an integer type
-offered-own : (vs : List Variable) (loops : List Name) (t : Ty) (e : S.Expr)
+pub offered-own : (vs : List Variable) (loops : List Name) (t : Ty) (e : S.Expr)
     → t ≡ settled vs loops t e .ty → judged vs loops e ≡ numbers → isInteger t ≡ true
 unfolding settled
 offered-own vs loops t e h n = numbers-integer t (sym (rw (n, settled) at h))

@@ -171,7 +171,7 @@ found-inside n v k (d ∷ ds) (inl f) = let lies = placed-first v k d (f .1) in 
 found-inside n v k (d ∷ ds) (inr f) = omega (arith, found-inside n v (k + sizeOf (d .bounds)) ds f)
 
 -- of the three kinds, a declaration has one
-one-kind : (x : Kind) (s : ℕ) → cond (sameKind Input x) s 0 + cond (sameKind Output x) s 0 + cond (sameKind Other x) s 0 ≡ s
+pub one-kind : (x : Kind) (s : ℕ) → cond (sameKind Input x) s 0 + cond (sameKind Output x) s 0 + cond (sameKind Other x) s 0 ≡ s
 one-kind Input s = omega arith
 one-kind Output s = omega arith
 one-kind Other s = omega arith

@@ -38,7 +38,7 @@ pub record Faultless (vs : List Variable) (loops : List Name) (t : Ty) (e : S.Ex
   pub offered : judged vs loops e ≡ numbers → isInteger t ≡ true
 
 -- as the walk's judgement says it
-fit-of : (vs : List Variable) (loops : List Name) (t : Ty) (e : S.Expr) → Faultless vs loops t e → Fits vs loops t e
+pub fit-of : (vs : List Variable) (loops : List Name) (t : Ty) (e : S.Expr) → Faultless vs loops t e → Fits vs loops t e
 unfolding settled
 fit-of vs loops t e h = record { none-found = h .none-found; offered = h .offered }
 
@@ -148,7 +148,7 @@ module _ (vs : List Variable) (s : State) where
       }
 
 -- the cells of every variable have its info
-abbrev Placed : List Variable → Type 0
+abbrev pub Placed : List Variable → Type 0
 Placed vs = (n : Name) (v : Variable) → find n vs ≡ some v
     → (c : Cell) → CellOf v c → getElem? (cellsOf vs) (c .0) ≡ some (infoOf v)
 

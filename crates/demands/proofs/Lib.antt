@@ -24,5 +24,16 @@ pub mod Lent
 pub mod Rule11
 pub mod Accepted
 pub mod Theorem
+pub mod ShortWords
+pub mod Placed
+pub mod PlacedWords
+pub mod PlacedExpressions
+pub mod PlacedStatements
+pub mod PlacedPrograms
 pub mod ShortNames
 pub mod Prints
+pub mod PlacedNames
+pub mod PlacedTypes
+pub mod PlacedHeights
+pub mod PlacedWalks
+pub mod Places

@@ -6,6 +6,7 @@ use Prim.Native.Nat.{ℕ, zero, suc, _+_, _<_}
 use native.Mathlib.Nat.{suc-add, zero-add, le-of-suc-le-suc, not-suc-le-zero}
 use native.Mathlib.Omega.{arith}
 use lib.ListN.{length, set, getElem?, replicate, length-append}
+use Rattle.demands.specs.InTypes.{All}
 use Rattle.demands.proofs.Answers.{none-some}
 
 module _ {A : Type 0} where
@@ -39,3 +40,8 @@ module _ {A : Type 0} where
   map-set f [] i a = refl
   map-set f (x ∷ xs) zero a = refl
   map-set f (x ∷ xs) (suc i) a = ap (λ r. f x ∷ r) (map-set f xs i a)
+
+  -- what holds of every element of two lists
+  pub both-all : (Q : A → Type 0) (xs ys : List A) → All Q xs → All Q ys → All Q (xs ++ ys)
+  both-all Q [] ys h k = k
+  both-all Q (x ∷ xs) ys h k = (h .0, both-all Q xs ys (h .1) k)

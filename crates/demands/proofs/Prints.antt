@@ -23,7 +23,9 @@ use Rattle.paper.specs.Printing as P
 use Rattle.paper.proofs.Counts.{few-declared}
 use Rattle.paper.specs.Judge.{Sound, judge, printOf}
 use Rattle.demands.specs.InTypes.{All}
-use Rattle.demands.proofs.ShortNames.{Short, ShortDeclared, both-short, short-names}
+use Rattle.demands.proofs.Lists.{both-all}
+use Rattle.demands.proofs.ShortWords.{Short}
+use Rattle.demands.proofs.ShortNames.{ShortDeclared, short-names}
 use Rattle.demands.proofs.Accepted.{accepted}
 use Rattle.demands.proofs.Theorem.{walk-means}
 
@@ -272,7 +274,7 @@ variables-short ds h =
     let y = ofKind Output ds in
     let z = ofKind Other ds in
     let short : (k : Kind) → ShortDeclared (ofKind k ds) = λ k. of-kind-some k ds h .short in
-    placed-short 0 (x ++ y ++ z) (both-short (x ++ y) z (both-short x y (short Input) (short Output)) (short Other))
+    placed-short 0 (x ++ y ++ z) (both-all _ (x ++ y) z (both-all _ x y (short Input) (short Output)) (short Other))
 
 print-few : (s : Name) (ds : List Declared) (n : ℕ) (p : Stmts) → Short s → ShortDeclared ds
     → length (P.print s ds (variablesOf ds) p) ≤ 201 * length ds + 80 * weight n p + 104

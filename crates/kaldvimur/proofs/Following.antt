@@ -9,27 +9,25 @@ use lib.IntN.{ℤ}
 use lib.ListN.{length, take, drop, length-map, drop-of-length-le}
 use lib.Seq.{take-at}
 use Rattle.paper.specs.declared.Why.the-variants.{BadValue}
-use Rattle.paper.specs.Tables.{linesIn, values, runTable}
+use Rattle.paper.specs.Tables.{runTable}
 use Rattle.paper.specs.Judge.{allFit, held, lent as lentAs, over, scanTable}
 use Rattle.cells.specs.Numbers.{Says, readIn, infoOf}
 use Rattle.cells.proofs.Infos.{infos-map}
 use Rattle.cells.proofs.Values.{length-read}
-use Rattle.rows.specs.Lent.{IsNext}
 use Rattle.rows.proofs.Total.{ran}
 use Rattle.kaldvimur.specs.declared.Outcome.{Outcome}
 use Rattle.kaldvimur.specs.declared.Outcome.the-variants.{Done, Refused}
-use Rattle.kaldvimur.specs.Totals.{Follows, Scans}
+use Rattle.kaldvimur.specs.Totals.{Runs, Follows, Scans}
 use Rattle.kaldvimur.proofs.Totals.{known}
 
 module _ (rs cs : List ℕ) (n : ℕ) (inputs old : List ℤ) where
   -- the held values with the readings put, then the rows' values, then the cells' next
-  pub follows : (mem start end vals : List ℕ) → length mem ≡ length cs → length cs ≤ length old → length cs ≤ length inputs
+  pub follows : (mem start end : List ℕ) → length mem ≡ length cs → length cs ≤ length old → length cs ≤ length inputs
       → Says cs (λ is. start ≡ over (readIn is old inputs) mem)
-      → vals ≡ values start [] (linesIn n rs)
-      → IsNext cs vals start end
+      → Runs rs cs n start end
       → Follows rs cs n inputs old end
   unfolding scanTable
-  follows mem start end vals m s i h v next u e =
+  follows mem start end m s i h next u e =
       let is = u .cells in
       let k = known rs cs n u e in
       let count : length is ≡ length cs = ap length (sym (infos-map cs is k)) ∙ length-map cs infoOf in
@@ -37,7 +35,7 @@ module _ (rs cs : List ℕ) (n : ℕ) (inputs old : List ℤ) where
       let past : length mem ≤ length (readIn is old inputs) = omega arith in
       let rest : drop (length (readIn is old inputs)) mem ≡ [] = drop-of-length-le mem past in
       let at : start ≡ readIn is old inputs = h is k ∙ rw rest (append-nil (readIn is old inputs)) in
-      ran rs cs n u start end e (rw v at next) ∙ ap (runTable u) at
+      ran rs cs n u start end e next ∙ ap (runTable u) at
 
   pub scan-unfit : (b : Bool) → Says cs (λ is. b ≡ allFit is old inputs) → not b ≡ true → (r : Outcome) → r ≡ Refused BadValue 0
       → Scans rs cs n inputs old old r

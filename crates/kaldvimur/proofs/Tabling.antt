@@ -34,7 +34,7 @@ use Rattle.kaldvimur.proofs.Checking.{test, no-room, has-room, have-roo
 
 -- ---- an accepted program's cells and rows
 
-few-rows : (t : List ℕ) (a : Sound) → judge t ≡ given a → lentOf (tableOfSound a) .rowCount ≤ a .weight + length (a .cells)
+pub few-rows : (t : List ℕ) (a : Sound) → judge t ≡ given a → lentOf (tableOfSound a) .rowCount ≤ a .weight + length (a .cells)
 unfolding tableOfSound lentOf tableOf
 few-rows t a h =
     let k = accepted t a h in

@@ -2,19 +2,29 @@
 use mathlib.Core.Bool.{Bool}
 use mathlib.Core.Option.{some}
 use mathlib.Core.Path.{_≡_}
-use mathlib.Core.List.{List}
+use mathlib.Core.List.{List, []}
 use Prim.Native.Nat.{ℕ, _*_, _≤_}
 use lib.IntN.{ℤ}
 use lib.ListN.{length}
-use Rattle.paper.specs.Tables.{Table, totalIn}
+use Rattle.paper.specs.Tables.{Table, linesIn, values, totalIn}
 use Rattle.paper.specs.Judge.{held, scanTable, scanBy}
-use Rattle.rows.specs.Lent.{lent, Answers}
+use Rattle.rows.specs.Lent.{lent, Answers, IsNext}
 use Rattle.kaldvimur.specs.declared.Outcome.{Outcome}
 use Rattle.kaldvimur.specs.Tables.{ScanDid}
 
 -- whether n rows and these cells have a total reading, whatever the rows
 abbrev pub Readable : List ℕ → ℕ → Bool → Type 0
 Readable cs n r = (rs : List ℕ) → Answers (totalIn (lent rs cs n)) r
+
+-- room for n rows and their values, and a value held for each cell
+pub record Runnable (rs cs : List ℕ) (n : ℕ) (start vals : List ℕ) : Type 0 where
+  pub rows : 4 * n ≤ length rs
+  pub values : n ≤ length vals
+  pub cells : length cs ≡ length start
+
+-- the next values of the cells, by n rows
+abbrev pub Runs : List ℕ → List ℕ → ℕ → List ℕ → List ℕ → Type 0
+Runs rs cs n start new = IsNext cs (values start [] (linesIn n rs)) start new
 
 -- the counts are those of rule 11, and every buffer has room
 pub record Scannable (rs cs : List ℕ) (n : ℕ) (inputs old : List ℤ) : Type 0 where

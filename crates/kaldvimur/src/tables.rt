@@ -8,7 +8,7 @@ ghost use Rattle.paper.specs.Judge.{scanLent, scanChecked};
 ghost use Rattle.kaldvimur.specs.declared.Outcome.the-variants.{Refused};
 ghost use Rattle.kaldvimur.specs.Tables.{TableDid, CheckDid, ScanDid, lentWith};
 ghost use Rattle.kaldvimur.specs.Writing.{Writable, Writes};
-ghost use Rattle.kaldvimur.specs.Totals.{Readable, Scannable, Follows, Scans};
+ghost use Rattle.kaldvimur.specs.Totals.{Readable, Runnable, Runs, Scannable, Follows, Scans};
 use crate::Outcome;
 use crate::why_of;
 use cells::cells_of;
@@ -131,15 +131,34 @@ fn is_readable(cells: &[u32], n: usize) -> bool
     cells_known(cells)
 }
 
-// What the cells hold after a scan by the total reading of a table of n rows.
+// Gives each cell that holds no reading its next value: n rows are worked out in `vals`.
+fn run_table(rows: &[u32], cells: &[u32], n: usize, held: &mut [u32], vals: &mut [u32])
+    requires { ⌜ Runnable (now rows) (now cells) n (now held) (now vals) ⌝ }
+    ensures { λ _. ⌜ Runs (now (rows .entry)) (now (cells .entry)) n (now (held .entry)) (now (held .exit)) ⌝ }
+{
+    run_rows(rows, n, held, vals);
+    next_state(cells, &vals[..n], held);
+}
+
+// What the cells hold after a scan by the total reading of a table of n rows. Fewer rows have a shorter array for their values,
+// since it takes time to clear one.
 fn follow(rows: &[u32], cells: &[u32], n: usize, state: &[i64], inputs: &[i64], held: &mut [u32])
     requires { ⌜ Scannable (now rows) (now cells) n (now inputs) (now state) × (length (now held) ≡ length (now cells)) ⌝ }
     ensures { λ _. ⌜ Follows (now (rows .entry)) (now (cells .entry)) n (now (inputs .entry)) (now (state .entry)) (now (held .exit)) ⌝ }
 {
     hold(cells, state, inputs, held);
+    if n <= 64 {
+        let mut few = [0u32; 64];
+        run_table(rows, cells, n, held, &mut few);
+        return;
+    }
+    if n <= 512 {
+        let mut some = [0u32; 512];
+        run_table(rows, cells, n, held, &mut some);
+        return;
+    }
     let mut vals = [0u32; 3064];
-    run_rows(rows, n, held, &mut vals);
-    next_state(cells, &vals[..n], held);
+    run_table(rows, cells, n, held, &mut vals);
 }
 
 // A scan by the total reading: 12, or the state that follows, in one pass over the rows.

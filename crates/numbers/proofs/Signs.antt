@@ -5,9 +5,10 @@ use mathlib.Core.List.{List, [], _∷_, _++_}
 use Prim.Native.Nat.{ℕ, zero, suc, _+_, _-_, _*_, _≤_, _<_}
 use native.Mathlib.Numerals.{add-one}
 use native.Mathlib.Omega.{arith}
-use borrow.Author.Tests.{ltb-true, ltb-false}
+use borrow.Author.Tests.{ltb-true, ltb-false, le-ltb}
 use lib.Dec.{ltb}
 use lib.IntN.{ℤ, pos, negsuc, negℤ, natAbs, _-ℤ_, +ℤ-idl}
+use lib.Signed.{mag, ltZ}
 use lib.ListN.{length, getD, take, drop, length-append, length-take}
 use mir.Syntax.{w64}
 use mir.Val.{SFits, toZ, ofZ}
@@ -97,6 +98,15 @@ negated n z h e = rw (negation n z h e) (toZ-ofZ (minus-fits n h))
 pub read-back : (z : ℤ) → natAbs z ≤ 9999999999 → toZ w64 (ofZ w64 z) ≡ z
 read-back (pos n) h = toZ-ofZ {w = w64} {z = pos n} (record { sfits = omega arith })
 read-back (negsuc n) h = toZ-ofZ {w = w64} {z = negsuc n} (record { sfits = omega arith })
+
+-- how far z is below -1
+pub minus-one : (z : ℤ) → ltZ z (pos 0) ≡ true → negsuc 0 -ℤ z ≡ pos (mag z)
+minus-one (pos n) h = absurd (omega (arith, ltb-true n 0 h))
+minus-one (negsuc n) h = rw (le-ltb (suc n) 1 (omega arith)) (ap pos (omega arith))
+
+-- and read back from its bits
+pub down : (z : ℤ) → SFits w64 z → ltZ z (pos 0) ≡ true → toZ w64 (ofZ w64 (negsuc 0 -ℤ z)) ≡ pos (mag z)
+down z f h = rw (minus-one z h) (toZ-pos w64 (f .sfits))
 
 module _ (s : List ℕ) (w : Whole) (h : IsPlain s w) where
   abbrev n : Digits

@@ -24,18 +24,14 @@ fn value_at(list: &[u32], a: u32) -> u32
     if i < list.len() { list[i] } else { 0 }
 }
 
-// The value of row a where row c holds, else that of row b.
-fn selected(vals: &[u32], c: u32, a: u32, b: u32) -> u32
-    ensures { λ r. ⌜ r ≡ cond (isTrue (getD (now (vals .entry)) c 0)) (getD (now (vals .entry)) a 0) (getD (now (vals .entry)) b 0) ⌝ }
+// The value a where the condition c holds, else b.
+fn selected(c: u32, a: u32, b: u32) -> u32
+    ensures { λ r. ⌜ r ≡ cond (isTrue c) a b ⌝ }
 {
-    if is_true(value_at(vals, c)) {
-        value_at(vals, a)
-    } else {
-        value_at(vals, b)
-    }
+    if is_true(c) { a } else { b }
 }
 
-// The value of row i, where the rows before it have the values `vals`.
+// The value of row i, where the rows before it have the values `vals`. Numbers and cells come first: they have no rows as operands.
 pub fn row_value(rows: &[u32], i: usize, state: &[u32], vals: &[u32]) -> u32
     requires { ⌜ 4 * i + 4 ≤ length (now rows) ⌝ }
     ensures { λ r. ⌜ r ≡ lineValue (now (state .entry)) (now (vals .entry)) (lineAt (now (rows .entry)) i) ⌝ }
@@ -43,16 +39,22 @@ pub fn row_value(rows: &[u32], i: usize, state: &[u32], vals: &[u32]) -> u32
     let at = 4 * i;
     let o = rows[at];
     let a = rows[at + 1];
+    if o < 8 {
+        return a;
+    }
+    if o < 16 {
+        return value_at(state, a);
+    }
     let t = type_in(o % 8);
+    let x = value_at(vals, a);
+    let y = value_at(vals, rows[at + 2]);
     match form_of(o / 8) {
-        Form::Number => a,
-        Form::Read => value_at(state, a),
-        Form::Minus => negated(t, value_at(vals, a)),
-        Form::Complement => bit_of(!is_true(value_at(vals, a))),
-        Form::Select => selected(vals, a, rows[at + 2], rows[at + 3]),
-        Form::Binary(op) => apply(op, t, value_at(vals, a), value_at(vals, rows[at + 2])),
-        Form::Conversion(u) => converted(t, u, value_at(vals, a)),
-        Form::Unknown => 0,
+        Form::Minus => negated(t, x),
+        Form::Complement => bit_of(!is_true(x)),
+        Form::Select => selected(x, y, value_at(vals, rows[at + 3])),
+        Form::Binary(op) => apply(op, t, x, y),
+        Form::Conversion(u) => converted(t, u, x),
+        _ => 0,
     }
 }
 

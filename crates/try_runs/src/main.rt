@@ -1,9 +1,10 @@
-// Every record of data/runs.pack and data/lent.pack: a text's starting state and scans, by the text and from its table; and of
-// data/tables.pack: a lent table checked and scanned.
+// Every record of data/runs.pack and data/lent.pack: a text's starting state and scans, by the text and from its table, and
+// buffers too short for them; and of data/tables.pack: a lent table checked and scanned.
 mod cases;
 mod compare;
 mod lines;
 mod runs;
+mod short;
 
 ghost use Prim.Native.Nat.{_≤_, _<_};
 ghost use Rattle.tally.specs.Counts.{Went};

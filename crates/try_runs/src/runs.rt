@@ -10,6 +10,7 @@ use crate::lines::ends;
 use crate::lines::line_end;
 use crate::lines::refusal_in;
 use crate::lines::values_in;
+use crate::short::short_refused;
 use kaldvimur::tables::Tabled;
 use kaldvimur::tables::table;
 use numbers::listed_in;
@@ -167,8 +168,14 @@ fn lines(text: &[u8], rows: &[u32], cells: &[u32], s: &[u8]) -> Answer {
     }
 }
 
-// A text and its lines; 15 where no table is made from it, or one that rule 11 refuses.
+// A text and its lines; 15 where no table is made from it, or one that rule 11 refuses; 17 where room too short is not refused.
 pub fn text_as(text: &[u8], expected: &[u8]) -> Answer {
+    if !short_refused(text) {
+        return Answer {
+            number: 17,
+            place: 0,
+        };
+    }
     let mut rows = [0u32; 12256];
     let mut cells = [0u32; 64];
     let none = Answer {

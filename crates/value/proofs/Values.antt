@@ -1,52 +1,26 @@
--- The value that a residue stands for is small, so that what is computed from two of them in 64 bits fits.
-use mathlib.Core.Path.{_≡_, refl, sym, ap}
-use mathlib.Core.Bool.{Bool, true, false, cond}
-use Prim.Native.Nat.{ℕ, zero, suc, _+_, _-_, _*_, _/_, _%_, _^_, _<_, _≤_}
-use native.Mathlib.Nat.{div-zero, div-le-self, zero-mod, mul-le-mul}
+-- The value that a residue stands for: it is small, so that a quotient of two fits 64 bits; and it follows from its place among
+-- the type's values.
+use mathlib.Core.Path.{_≡_, refl, sym, ap, _∙_}
+use mathlib.Core.Bool.{Bool, true, false, cond, _&&_}
+use Prim.Native.Nat.{ℕ, zero, suc, _+_, _-_, _/_, _%_, _^_, _<_, _≤_}
+use native.Mathlib.Nat.{div-zero, div-le-self, zero-mod, add-zero, mod-lt, mod-eq-of-lt, mod-add-mod, mod-eq-sub-mod}
 use native.Mathlib.Omega.{arith}
-use borrow.Author.Tests.{leb-true, leb-false}
-use lib.Dec.{leb, ltb}
-use lib.IntN.{ℤ, pos, negsuc, negℤ, natAbs, subℕ, _+ℤ_, _-ℤ_, _*ℤ_}
+use borrow.Author.Tests.{leb-true, leb-false, lt-ltb, le-ltb}
+use lib.Dec.{leb}
+use lib.IntN.{ℤ, pos, negsuc, negℤ, natAbs, subℕ, _-ℤ_}
 use lib.Signed.{mag, quotZ}
 use mir.Syntax.{w64}
-use mir.Val.{Fits, SFits, toZ, ofZ}
-use mir.Facts.{toZ-ofZ}
+use mir.Val.{SFits, toZ, ofZ}
+use mir.Facts.{toZ-ofZ, toZ-pos}
 use Rattle.paper.specs.declared.Ty.{Ty}
-use Rattle.paper.specs.Types.{width, signed, below, reading, encode, decode, mul, quotient}
-use Rattle.value.proofs.Residues.{modulus-above, modulus-small, wrapped-below}
+use Rattle.paper.specs.Types.{width, signed, below, reading, encode, decode, quotient}
+use Rattle.value.proofs.Residues.{modulus-above, modulus-small, wrapped-below, halves}
 
 -- ---- sizes: `mag z` is n for n and for -(n + 1)
-
--- a difference of two naturals is at most their sum
-sub-mag : (a b : ℕ) → mag (subℕ a (suc b)) ≤ suc (a + b)
-sub-mag a b = go (ltb a (suc b))
-  where
-    go : (s : Bool) → mag (cond s (negsuc (suc b - suc a)) (pos (a - suc b))) ≤ suc (a + b)
-    go true = omega arith
-    go false = omega arith
-
--- a sum is at most one more than its parts together
-add-mag : (x y : ℤ) → mag (x +ℤ y) ≤ suc (mag x + mag y)
-add-mag (pos a) (pos b) = omega arith
-add-mag (pos a) (negsuc b) = sub-mag a b
-add-mag (negsuc a) (pos b) = omega (arith, sub-mag b a)
-add-mag (negsuc a) (negsuc b) = omega arith
 
 minus-mag : (n : ℕ) → mag (negℤ (pos n)) ≤ n
 minus-mag zero = omega arith
 minus-mag (suc n) = omega arith
-
--- a negation is at most one more than its operand
-neg-mag : (z : ℤ) → mag (negℤ z) ≤ suc (mag z)
-neg-mag (pos n) = omega (arith, minus-mag n)
-neg-mag (negsuc n) = omega arith
-
--- a product is at most the distances' product
-mul-mag : (x y : ℤ) → mag (x *ℤ y) ≤ natAbs x * natAbs y
-mul-mag (pos a) (pos b) = omega arith
-mul-mag (pos a) (negsuc b) = minus-mag (a * suc b)
-mul-mag (negsuc a) (pos b) = minus-mag (suc a * b)
-mul-mag (negsuc a) (negsuc b) = omega arith
 
 -- a quotient is no further from 0 than its dividend
 quot-mag : (x y : ℤ) → mag (quotZ x y) ≤ natAbs x
@@ -60,7 +34,38 @@ natAbs-mag : (z : ℤ) → natAbs z ≤ suc (mag z)
 natAbs-mag (pos n) = omega arith
 natAbs-mag (negsuc n) = omega arith
 
--- ---- what is computed from two values fits i64
+-- ---- from the place of a value among those of a type, the lowest first, whose modulus is m and half of it h
+
+minus-pos : (a b : ℕ) → pos a -ℤ pos b ≡ subℕ a b
+minus-pos a zero = rw (le-ltb a 0 (omega arith)) (ap pos (omega arith))
+minus-pos a (suc b) = refl
+
+from-place : (s : Bool) (m h r : ℕ)
+    → m ≡ h + h
+    → 0 < m
+    → pos ((r + cond s h 0) % m) -ℤ pos (cond s h 0) ≡ reading (s && leb m (r % m + r % m)) m (r % m)
+from-place false m h r e k = rw (add-zero r, add-zero (r % m))
+from-place true m h r e k = go (leb m (x + x)) refl
+  where
+    x : ℕ
+    x = r % m
+
+    l : x < m
+    l = mod-lt r k
+
+    place : (n : ℕ) → (x + h) % m ≡ n → pos ((r + h) % m) -ℤ pos h ≡ subℕ n h
+    place n q = rw (← (mod-add-mod r m h), q) (minus-pos n h)
+
+    go : (b : Bool) → leb m (x + x) ≡ b → pos ((r + h) % m) -ℤ pos h ≡ reading b m x
+    go true q =
+        let u = leb-true m (x + x) q in
+        let v : (x + h) % m ≡ x + h - m = mod-eq-sub-mod {n = x + h} {m = m} (omega arith) ∙ mod-eq-of-lt {n = x + h - m} {m = m} (omega (arith, l)) in
+        place (x + h - m) v ∙ rw (lt-ltb (x + h - m) h (omega (arith, l))) (ap negsuc (omega (arith, l)))
+    go false q =
+        let u = leb-false m (x + x) q in
+        place (x + h) (mod-eq-of-lt {n = x + h} {m = m} (omega arith)) ∙ rw (le-ltb (x + h) h (omega arith)) (ap pos (omega arith))
+
+-- ---- what fits i64
 
 module _ (t : Ty) where
   -- any value has 33 bits, with its sign
@@ -72,53 +77,34 @@ module _ (t : Ty) where
       go true = omega (arith, modulus-small t, modulus-above t)
       go false = omega (arith, modulus-small t, wrapped-below t r)
 
-  -- a value of a signed type has 32 bits
-  signed-small : (r : ℕ) → signed t ≡ true → natAbs (decode t r) ≤ 2 ^ 31
-  unfolding decode
-  signed-small r h = rw h (go (leb (2 ^ width t) (x + x)) refl)
-    where
-      x : ℕ
-      x = r % 2 ^ width t
-
-      go : (s : Bool) → leb (2 ^ width t) (x + x) ≡ s → natAbs (reading s (2 ^ width t) x) ≤ 2 ^ 31
-      go true e = omega (arith, leb-true (2 ^ width t) (x + x) e, modulus-small t, wrapped-below t r)
-      go false e = omega (arith, leb-false (2 ^ width t) (x + x) e, modulus-small t)
+  pub value-fits : (r : ℕ) → SFits w64 (decode t r)
+  value-fits r = record { sfits = omega (arith, value-small r) }
 
   -- a value is read back from its bits
   pub read-back : (r : ℕ) {z : ℤ} → z ≡ decode t r → toZ w64 (ofZ w64 z) ≡ decode t r
-  read-back r e = rw e (toZ-ofZ (record { sfits = omega (arith, value-small r) }))
-
-  pub sum-fits : (a b : ℕ) → SFits w64 (decode t a +ℤ decode t b)
-  sum-fits a b = record { sfits = omega (arith, add-mag (decode t a) (decode t b), value-small a, value-small b) }
-
-  pub difference-fits : (a b : ℕ) → SFits w64 (decode t a -ℤ decode t b)
-  difference-fits a b =
-      record { sfits = omega (arith, add-mag (decode t a) (negℤ (decode t b)), neg-mag (decode t b), value-small a, value-small b) }
-
-  pub negation-fits : (a : ℕ) → SFits w64 (negℤ (decode t a))
-  negation-fits a = record { sfits = omega (arith, neg-mag (decode t a), value-small a) }
+  read-back r e = rw e (toZ-ofZ (value-fits r))
 
   pub quotient-fits : (a b : ℕ) → SFits w64 (quotZ (decode t a) (decode t b))
   quotient-fits a b =
       record { sfits = omega (arith, quot-mag (decode t a) (decode t b), natAbs-mag (decode t a), value-small a) }
 
-  pub product-fits : (a b : ℕ) → signed t ≡ true → SFits w64 (decode t a *ℤ decode t b)
-  product-fits a b h =
-      record { sfits = omega (arith, mul-mag (decode t a) (decode t b), mul-le-mul (signed-small a h) (signed-small b h)) }
+  -- ---- how many values of the type are below 0
 
-  -- ---- the product of an unsigned type, on residues
+  abbrev lows : ℕ
+  lows = cond (signed t) (2 ^ (width t - 1)) 0
 
-  pub residues-fit : (a b : ℕ) → Fits w64 ((a % 2 ^ width t) * (b % 2 ^ width t))
-  residues-fit a b = record { fits = omega (arith, mul-le-mul (small a) (small b)) }
+  pub lows-small : lows ≤ 2 ^ 31
+  lows-small = go (signed t)
     where
-      small : (r : ℕ) → r % 2 ^ width t ≤ 2 ^ 32 - 1
-      small r = omega (arith, modulus-small t, wrapped-below t r)
+      go : (s : Bool) → cond s (2 ^ (width t - 1)) 0 ≤ 2 ^ 31
+      go true = omega (arith, modulus-small t, halves t)
+      go false = omega arith
 
-  pub product-unsigned : (a b : ℕ)
-      → signed t ≡ false
-      → ((a % 2 ^ width t) * (b % 2 ^ width t)) % 2 ^ width t ≡ mul t a b
-  unfolding encode decode
-  product-unsigned a b h = rw h
+  pub from-lowest : (r : ℕ) → toZ w64 ((r + lows) % 2 ^ width t) -ℤ toZ w64 lows ≡ decode t r
+  unfolding decode
+  from-lowest r =
+      rw (toZ-pos w64 {n = (r + lows) % 2 ^ width t} (omega (arith, wrapped-below t (r + lows), modulus-small t)), toZ-pos w64 {n = lows} (omega (arith, lows-small)))
+      (from-place (signed t) (2 ^ width t) (2 ^ (width t - 1)) r (halves t) (modulus-above t))
 
   -- ---- a divisor of 0
 

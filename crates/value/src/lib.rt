@@ -1,11 +1,12 @@
 // The five types and what operations do, on residues. Each function is total: it answers what its definition says for any arguments.
-// An operation reads the values that two residues stand for as i64, computes there, and brings the result into the type.
+// Sums, differences and products are worked out on the residues themselves; quotients and orders on the values, in i64.
 ghost use mathlib.Core.Path.{_≡_};
-ghost use Prim.Native.Nat.{_%_, _^_};
+ghost use mathlib.Core.Bool.{cond};
+ghost use Prim.Native.Nat.{_-_, _%_, _^_};
 ghost use lib.ListN.{getElem?};
 ghost use lib.Signed.{ltZ, leZ};
 ghost use Rattle.paper.specs.Types as Types;
-ghost use Rattle.paper.specs.Types.{width, signed, tag, sameTy, lowest, highest, below, encode, decode, add, sub, mul, negate, quotient, remainder, convert, bit, isTrue, equal};
+ghost use Rattle.paper.specs.Types.{width, signed, tag, sameTy, lowest, highest, encode, decode, add, sub, mul, negate, quotient, remainder, convert, bit, isTrue, equal};
 ghost use Rattle.paper.specs.Tables.{types};
 ghost use Rattle.value.specs.Known.{known};
 use paper::Op;
@@ -121,36 +122,32 @@ fn wrapped(t: Ty, n: u64) -> u32
     (n & (modulus(t) - 1)) as u32
 }
 
-// Whether a residue stands for a value below 0.
-fn is_below(t: Ty, r: u32) -> bool
-    ensures { λ s. ⌜ s ≡ below t r ⌝ }
+// How many values of the type are below 0.
+fn negatives(t: Ty) -> u64
+    ensures { λ r. ⌜ r ≡ cond (signed t) (2 ^ (width t - 1)) 0 ⌝ }
 {
-    let w = r as u64;
-    is_signed(t) && modulus(t) <= w + w
+    match t {
+        Ty::Bool => 0,
+        Ty::Int => 0x8000,
+        Ty::Uint => 0,
+        Ty::Dint => 0x8000_0000,
+        Ty::Udint => 0,
+    }
 }
 
-// Brings z into the type: up from 0, or below 0 down from the modulus.
+// Brings z into the type, by its low bits.
 pub fn residue_of(t: Ty, z: i64) -> u32
     ensures { λ r. ⌜ r ≡ encode t z ⌝ }
 {
-    if z < 0 {
-        let n = wrapped(t, (-1 - z) as u64) as u64;
-        (modulus(t) - (n + 1)) as u32
-    } else {
-        wrapped(t, z as u64)
-    }
+    (z & (modulus(t) as i64 - 1)) as u32
 }
 
-// The value that a residue stands for.
+// The value that a residue stands for: its place among the type's values from the lowest up, less the number of those below 0.
 pub fn value_of(t: Ty, r: u32) -> i64
     ensures { λ z. ⌜ z ≡ decode t r ⌝ }
 {
-    let x = wrapped(t, r as u64);
-    if is_below(t, x) {
-        (x as i64) - (modulus(t) as i64)
-    } else {
-        x as i64
-    }
+    let n = negatives(t);
+    wrapped(t, r as u64 + n) as i64 - n as i64
 }
 
 // From the type t to the type u.
@@ -160,40 +157,34 @@ pub fn converted(t: Ty, u: Ty, a: u32) -> u32
     residue_of(u, value_of(t, a))
 }
 
-// ---- arithmetic
+// ---- arithmetic. 0x1_0000_0000 is a multiple of every modulus: it keeps a difference above 0.
 
 // The sum, brought in.
 pub fn sum(t: Ty, a: u32, b: u32) -> u32
     ensures { λ r. ⌜ r ≡ add t a b ⌝ }
 {
-    residue_of(t, value_of(t, a) + value_of(t, b))
+    wrapped(t, a as u64 + b as u64)
 }
 
 // The difference, brought in.
 pub fn difference(t: Ty, a: u32, b: u32) -> u32
     ensures { λ r. ⌜ r ≡ sub t a b ⌝ }
 {
-    residue_of(t, value_of(t, a) - value_of(t, b))
+    wrapped(t, 0x1_0000_0000 + a as u64 - b as u64)
 }
 
 // The negation, brought in.
 pub fn negated(t: Ty, a: u32) -> u32
     ensures { λ r. ⌜ r ≡ negate t a ⌝ }
 {
-    residue_of(t, 0 - value_of(t, a))
+    wrapped(t, 0x1_0000_0000 - a as u64)
 }
 
-// The product, brought in. Two values of UDINT multiply to 64 bits, which u64 holds and i64 doesn't.
+// The product, brought in.
 pub fn product(t: Ty, a: u32, b: u32) -> u32
     ensures { λ r. ⌜ r ≡ mul t a b ⌝ }
 {
-    if is_signed(t) {
-        residue_of(t, value_of(t, a) * value_of(t, b))
-    } else {
-        let x = wrapped(t, a as u64);
-        let y = wrapped(t, b as u64);
-        wrapped(t, (x as u64) * (y as u64))
-    }
+    wrapped(t, a as u64 * b as u64)
 }
 
 // The quotient cut toward zero, brought in; by 0 it is 0.
@@ -232,7 +223,7 @@ fn is_at_most(t: Ty, a: u32, b: u32) -> bool
 pub fn is_same(t: Ty, a: u32, b: u32) -> bool
     ensures { λ r. ⌜ r ≡ equal (decode t a) (decode t b) ⌝ }
 {
-    is_at_most(t, a, b) & is_at_most(t, b, a)
+    wrapped(t, a as u64) == wrapped(t, b as u64)
 }
 
 // The truth value of a BOOL.

@@ -99,9 +99,9 @@ reserved-plain : all (λ (e : Spelled). plain (e .spelling)) reserved ≡ true
 unfolding reserved bytes typeName conversionName
 reserved-plain = refl
 
-reserved-short : all (λ (e : Spelled). ltb (length (e .spelling)) 14) reserved ≡ true
+reserved-lengths : all (λ (e : Spelled). between 2 13 (length (e .spelling))) reserved ≡ true
 unfolding reserved bytes typeName conversionName
-reserved-short = refl
+reserved-lengths = refl
 
 -- no two entries are spelled the same
 reserved-found : (w : Word) → map (λ (e : Spelled). lookUp reserved (e .spelling) w) reserved ≡ map (λ (e : Spelled). e .word) reserved
@@ -137,9 +137,9 @@ is-name : (p : List ℕ → Bool) (s : List ℕ) → all (λ (e : Spelled). p (e
 unfolding denoted
 is-name p s a q = record { low = omega arith; high = omega arith; word = sym (unfound p reserved s (name s) a q) }
 
--- a run longer than all reserved words
-pub long-name : (s : List ℕ) → 13 < length s → IsRunClass s 1
-long-name s h = is-name (λ t. ltb (length t) 14) s reserved-short (le-ltb (length s) 14 (omega arith))
+-- a run shorter or longer than all reserved words
+pub other-length : (s : List ℕ) → between 2 13 (length s) ≡ false → IsRunClass s 1
+other-length s h = is-name (λ t. between 2 13 (length t)) s reserved-lengths h
 
 abbrev someKey : List ℕ → Bool
 someKey s = among keywordKeys (keyOf s) || among operandKeys (keyOf s)

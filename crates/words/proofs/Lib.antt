@@ -6,3 +6,4 @@ pub mod Keys
 pub mod Signs
 pub mod Pieces
 pub mod Cuts
+pub mod Readers

@@ -9,7 +9,7 @@ use borrow.Author.Tests.{eqb-true, eqb-false, ne-eqb, le-leb, lt-leb, leb-true, 
 use lib.Dec.{eqb, leb}
 use lib.ListN.{length, getD, take, drop, length-take, length-drop}
 use lib.Seq.{drop-cons, drop-length, take-all, take-take}
-use Rattle.paper.specs.Words.{inRun, isDigit, isUnderscore, runOf, parted, allDigits, valueFrom}
+use Rattle.paper.specs.Words.{between, inRun, isDigit, isUnderscore, runOf, parted, allDigits, valueFrom}
 use Rattle.words.specs.Denoted.{part, RunEnds, NameEnds, IsNumeral}
 use Rattle.words.proofs.Truths.{both}
 
@@ -98,9 +98,9 @@ pub record Counts (s rest : List ℕ) (n : ℕ) (good : Bool) : Type 0 where
 pub counts-none : (s : List ℕ) → Counts s s 0 true
 counts-none s = record { small = omega arith; digits = refl; within = λ g h. refl; beyond = λ g h. absurd (omega arith) }
 
--- the bytes of digits
-pub digit-range : (c : ℕ) → isDigit c ≡ true → (48 ≤ c) × (c ≤ 57)
-digit-range c h = let b = both (leb 48 c) (leb c 57) h in (leb-true 48 c (b .0), leb-true c 57 (b .1))
+-- the bytes between two
+pub in-range : (l u c : ℕ) → between l u c ≡ true → (l ≤ c) × (c ≤ u)
+in-range l u c h = let b = both (leb l c) (leb c u) h in (leb-true l c (b .0), leb-true c u (b .1))
 
 -- one byte more
 module _ {s rest : List ℕ} {c n : ℕ} {g : Bool} (k : Counts s (c ∷ rest) n g) where

@@ -1,99 +1,114 @@
--- Lists of bytes compared from a place on, parts of a text in capitals, names by their first bytes, and the list of reserved words.
+-- Parts of a text in capitals, names compared byte by byte, and the list of reserved words.
 use mathlib.Core.Path.{_≡_, refl, sym, ap, _∙_}
-use mathlib.Core.Bool.{Bool, true, false, _&&_, and-false, true≢false}
-use mathlib.Core.List.{List, [], _∷_, _++_, map}
+use mathlib.Core.Bool.{Bool, true, false, cond, not, _&&_, or-true, true≢false}
+use mathlib.Core.List.{List, [], _∷_, map}
 use Prim.Native.Nat.{ℕ, suc, _+_, _-_, _≤_, _<_}
 use native.Mathlib.Nat.{add-sub-cancel-left}
-use native.Mathlib.Numerals.{add-one}
 use native.Mathlib.Omega.{arith}
-use borrow.Author.Tests.{ltb-true, ltb-false, ne-eqb}
+use borrow.Author.Tests.{ltb-true, ltb-false, eqb-true, ne-eqb, le-leb}
 use lib.Dec.{eqb, ltb}
-use lib.ListN.{length, getD, set, take, drop, replicate, length-map, List·getD-append, List·getD-map, List·getD-eq-default, drop-of-length-le}
-use lib.Seq.{drop-cons, getD-take, getD-drop, take-all, take-suc, length-take-le, append-snoc, set-at}
-use Rattle.paper.specs.Words.{Spelled, ending, inRun, runOf, capital, sameBytes, reserved, signs}
-use Rattle.words.specs.Denoted.{part, folded, nameAt, entries, entry, denoted}
-use Rattle.words.proofs.Runs.{part-length}
-
--- ---- the same bytes, from a place on
-
--- the two bytes there, and the rest
-same-on :
-    (s t : List ℕ) (i d e : ℕ) → i < length s → i < length t
-    → sameBytes (drop i s) (drop i t) ≡ eqb (getD s i d) (getD t i e) && sameBytes (drop (i + 1) s) (drop (i + 1) t)
-unfolding sameBytes
-same-on s t i d e hs ht = rw (drop-cons s i d hs, drop-cons t i e ht, add-one)
-
--- the same where the lists are fronts of x and y
-pub same-fronts :
-    (s t zs ws x y : List ℕ) (i : ℕ) → x ≡ s ++ zs → y ≡ t ++ ws → i < length s → i < length t
-    → sameBytes (drop i s) (drop i t) ≡ eqb (getD x i 0) (getD y i 0) && sameBytes (drop (i + 1) s) (drop (i + 1) t)
-same-fronts s t zs ws x y i ex ey hs ht =
-    rw (ex, ey, List·getD-append s zs 0 i hs, List·getD-append t ws 0 i ht) (same-on s t i 0 0 hs ht)
-
-pub lengths-differ : (s t : List ℕ) → (length s ≡ length t → ⊥) → sameBytes s t ≡ false
-unfolding sameBytes
-lengths-differ [] [] h = absurd (h refl)
-lengths-differ [] (d ∷ t) h = refl
-lengths-differ (c ∷ s) [] h = refl
-lengths-differ (c ∷ s) (d ∷ t) h = rw (lengths-differ s t (λ q. h (ap suc q))) (and-false (eqb c d))
+use lib.ListN.{length, getD, take, drop, length-map, List·getD-append, List·getD-eq-default, drop-of-length-le}
+use lib.Seq.{drop-cons, take-nil}
+use Rattle.paper.specs.Words.{Spelled, ending, between, inRun, runOf, capital, sameBytes, reserved, signs}
+use Rattle.words.specs.Denoted.{part, folded, nameAt, restAt, entries, entry, denoted}
+use Rattle.words.proofs.Runs.{part-length, in-range}
 
 -- ---- a part of a text in capitals
 
 pub folded-length : (t : List ℕ) (a e : ℕ) → e ≤ length t → length (folded t a e) ≡ e - a
 folded-length t a e h = length-map (part t a e) capital ∙ part-length t a e h
 
-folded-at : (t : List ℕ) (a e i : ℕ) → i < e - a → getD (folded t a e) i 0 ≡ capital (getD t (a + i) 0)
-folded-at t a e i h = List·getD-map capital (part t a e) i 0 ∙ ap capital (getD-take (e - a) (drop a t) i 0 h ∙ getD-drop a t i 0)
+-- ---- names byte by byte
 
--- the first i bytes of s in front of zeros, m together
-abbrev pub filled : ℕ → List ℕ → ℕ → List ℕ
-filled m s i = take i s ++ replicate (m - i) 0
-
-fill : (m : ℕ) (s : List ℕ) (i : ℕ) → i < length s → i < m → set (filled m s i) i (getD s i 0) ≡ filled m s (suc i)
-fill m s i hs hm =
-    let zeros : m - i ≡ suc (m - suc i) = omega arith in
-    let full : length (take i s) ≡ i = length-take-le i s (omega arith) in
-    rw (zeros, take-suc s i 0 hs, append-snoc) (set-at (take i s) 0 (replicate (m - suc i) 0) (getD s i 0) i full)
-
-module _ (m : ℕ) (t : List ℕ) (a e : ℕ) (he : e ≤ length t) where
-  -- one more byte
-  pub fill-folded :
-      (i : ℕ) → i < e - a → i < m → set (filled m (folded t a e) i) i (capital (getD t (a + i) 0)) ≡ filled m (folded t a e) (i + 1)
-  fill-folded i hi hm =
-      let l : i < length (folded t a e) = omega (arith, folded-length t a e he) in
-      rw (add-one, ← folded-at t a e i hi) (fill m (folded t a e) i l hm)
-
-  pub filled-folded : filled m (folded t a e) (e - a) ≡ folded t a e ++ replicate (m - (e - a)) 0
-  filled-folded = rw (take-all (e - a) (folded t a e) (omega (arith, folded-length t a e he)))
-
--- ---- names by their first bytes
-
-module _ (t : List ℕ) (a : ℕ) where
-  name-some : inRun (getD t a 0) ≡ true → nameAt t a ≡ capital (getD t a 0) ∷ map capital (take 23 (runOf (drop (suc a) t)))
-  unfolding runOf
-  name-some h = go (ltb a (length t)) refl
-    where
-      go : (b : Bool) → ltb a (length t) ≡ b → nameAt t a ≡ capital (getD t a 0) ∷ map capital (take 23 (runOf (drop (suc a) t)))
-      go true l = rw (drop-cons t a 0 (ltb-true a (length t) l)) (rw (h, runOf))
-      go false l = absurd (true≢false (sym h ∙ ap inRun (List·getD-eq-default t 0 (ltb-false a (length t) l))))
-
-  name-none : inRun (getD t a 0) ≡ false → nameAt t a ≡ []
-  unfolding runOf
-  name-none h = go (ltb a (length t)) refl
-    where
-      go : (b : Bool) → ltb a (length t) ≡ b → nameAt t a ≡ []
-      go true l = rw (drop-cons t a 0 (ltb-true a (length t) l)) (rw (h, runOf))
-      go false l = rw (drop-of-length-le t {i = a} (ltb-false a (length t) l))
-
-pub names-apart :
-    (t : List ℕ) (a b : ℕ) → inRun (getD t a 0) ≡ true → (capital (getD t a 0) ≡ capital (getD t b 0) → ⊥)
-    → sameBytes (nameAt t a) (nameAt t b) ≡ false
-unfolding sameBytes
-names-apart t a b h d = rw (name-some t a h) (go (inRun (getD t b 0)) refl)
+-- the case of a letter takes it into no run and out of none
+run-capital : (c : ℕ) → inRun (capital c) ≡ inRun c
+run-capital c = go (between 97 122 c) refl
   where
-    go : (r : Bool) → inRun (getD t b 0) ≡ r → sameBytes (capital (getD t a 0) ∷ map capital (take 23 (runOf (drop (suc a) t)))) (nameAt t b) ≡ false
-    go true r = rw (name-some t b r) (rw (ne-eqb (capital (getD t a 0)) (capital (getD t b 0)) d))
-    go false r = rw (name-none t b r)
+    go : (b : Bool) → between 97 122 c ≡ b → inRun (cond b (c - 32) c) ≡ inRun c
+    go true h =
+        let r = in-range 97 122 c h in
+        rw (h, le-leb 65 (c - 32) (omega (arith, r .0)), le-leb (c - 32) 90 (omega (arith, r .1))) (simp or-true)
+    go false h = refl
+
+-- so of two bytes that are the same in capitals, both are in a run or none
+pub same-run : (x y : ℕ) → eqb (capital x) (capital y) ≡ true → inRun x ≡ inRun y
+same-run x y e = sym (run-capital x) ∙ ap inRun (eqb-true (capital x) (capital y) e) ∙ run-capital y
+
+-- bytes that are neither the same nor a letter's case apart
+pub case-apart : (x y : ℕ) → (x ≡ y → ⊥) → (x + 32 ≡ y → ⊥) → (y + 32 ≡ x → ⊥) → eqb (capital x) (capital y) ≡ false
+case-apart x y n u v = go (between 97 122 x) refl (between 97 122 y) refl
+  where
+    go : (a : Bool) → between 97 122 x ≡ a → (b : Bool) → between 97 122 y ≡ b → eqb (cond a (x - 32) x) (cond b (y - 32) y) ≡ false
+    go true h true k = ne-eqb (x - 32) (y - 32) (λ q. n (omega (arith, in-range 97 122 x h, in-range 97 122 y k)))
+    go true h false k = ne-eqb (x - 32) y (λ q. v (omega (arith, in-range 97 122 x h)))
+    go false h true k = ne-eqb x (y - 32) (λ q. u (omega (arith, in-range 97 122 y k)))
+    go false h false k = ne-eqb x y n
+
+-- no run has a byte beyond the text
+pub in-text : (t : List ℕ) (p : ℕ) → inRun (getD t p 0) ≡ true → p < length t
+in-text t p h = go (ltb p (length t)) refl
+  where
+    go : (b : Bool) → ltb p (length t) ≡ b → p < length t
+    go true l = ltb-true p (length t) l
+    go false l = absurd (true≢false (sym h ∙ ap inRun (List·getD-eq-default t 0 (ltb-false p (length t) l))))
+
+module _ (t : List ℕ) (p i : ℕ) where
+  rest-some : i < 24 → inRun (getD t (p + i) 0) ≡ true → restAt t p i ≡ capital (getD t (p + i) 0) ∷ restAt t p (i + 1)
+  unfolding runOf
+  rest-some l h =
+      let n : 24 - i ≡ suc (24 - (i + 1)) = omega arith in
+      let q : p + (i + 1) ≡ suc (p + i) = omega arith in
+      rw (n, q, drop-cons t (p + i) 0 (in-text t (p + i) h)) (rw (h, runOf))
+
+  rest-none : inRun (getD t (p + i) 0) ≡ false → restAt t p i ≡ []
+  unfolding runOf
+  rest-none h = ap (λ (s : List ℕ). map capital (take (24 - i) s)) (go (ltb (p + i) (length t)) refl) ∙ ap (map capital) (take-nil (24 - i))
+    where
+      go : (b : Bool) → ltb (p + i) (length t) ≡ b → runOf (drop (p + i) t) ≡ []
+      go true l = rw (drop-cons t (p + i) 0 (ltb-true (p + i) (length t) l), h, runOf)
+      go false l = rw (drop-of-length-le t {i = p + i} (ltb-false (p + i) (length t) l))
+
+module _ (t : List ℕ) (a b i : ℕ) where
+  -- a byte of both
+  pub rest-same :
+      i < 24 → eqb (capital (getD t (a + i) 0)) (capital (getD t (b + i) 0)) ≡ true → inRun (getD t (a + i) 0) ≡ true
+      → sameBytes (restAt t a i) (restAt t b i) ≡ sameBytes (restAt t a (i + 1)) (restAt t b (i + 1))
+  unfolding sameBytes
+  rest-same l e h = rw (rest-some t a i l h, rest-some t b i l (sym (same-run (getD t (a + i) 0) (getD t (b + i) 0) e) ∙ h), e)
+
+  -- the first bytes of the rests tell, where they are not the same
+  pub rest-apart :
+      i < 24 → (inRun (getD t (a + i) 0) ≡ true → inRun (getD t (b + i) 0) ≡ true → capital (getD t (a + i) 0) ≡ capital (getD t (b + i) 0) → ⊥)
+      → sameBytes (restAt t a i) (restAt t b i) ≡ (not (inRun (getD t (a + i) 0)) && not (inRun (getD t (b + i) 0)))
+  unfolding sameBytes
+  rest-apart l d = go (inRun (getD t (a + i) 0)) refl (inRun (getD t (b + i) 0)) refl
+    where
+      go : (x : Bool) → inRun (getD t (a + i) 0) ≡ x → (y : Bool) → inRun (getD t (b + i) 0) ≡ y → sameBytes (restAt t a i) (restAt t b i) ≡ (not x && not y)
+      go true h true k = rw (rest-some t a i l h, rest-some t b i l k, ne-eqb (capital (getD t (a + i) 0)) (capital (getD t (b + i) 0)) (d h k))
+      go true h false k = rw (rest-some t a i l h, rest-none t b i k)
+      go false h true k = rw (rest-none t a i h, rest-some t b i l k)
+      go false h false k = rw (rest-none t a i h, rest-none t b i k)
+
+module _ (t : List ℕ) (a b : ℕ) where
+  -- before the first byte
+  pub rest-none-yet : sameBytes (nameAt t a) (nameAt t b) ≡ sameBytes (restAt t a 0) (restAt t b 0)
+  rest-none-yet =
+      let p : a + 0 ≡ a = omega arith in
+      let q : b + 0 ≡ b = omega arith in
+      rw (p, q)
+
+  -- behind the last
+  pub rest-no-more : sameBytes (restAt t a 24) (restAt t b 24) ≡ true
+  unfolding sameBytes
+  rest-no-more = refl
+
+  pub names-apart :
+      (inRun (getD t a 0) ≡ true → inRun (getD t b 0) ≡ true → capital (getD t a 0) ≡ capital (getD t b 0) → ⊥)
+      → sameBytes (nameAt t a) (nameAt t b) ≡ (not (inRun (getD t a 0)) && not (inRun (getD t b 0)))
+  names-apart d =
+      let p : a + 0 ≡ a = omega arith in
+      let q : b + 0 ≡ b = omega arith in
+      rw (p, q) at (rest-apart t a b 0 (omega arith) (rw (p, q) d))
 
 -- ---- the reserved words
 

@@ -9,7 +9,7 @@ use lib.ListN.{length, getD, take, drop}
 use Rattle.paper.specs.declared.Why.the-variants.{NoWord}
 use Rattle.paper.specs.Refusals.{Answer, refused, given, _>>=_}
 use Rattle.paper.specs.Words as W
-use Rattle.paper.specs.Words.{Token, Spelled, Piece, bytes, reserved, signs, isBlank, begins, closed, runOf, parted, allDigits, valueFrom, capital, lookUp, numberPiece, namePiece, signPiece, pieceOf, wordsFrom, wordsOf}
+use Rattle.paper.specs.Words.{Token, Spelled, Piece, bytes, reserved, signs, sameBytes, inRun, isBlank, begins, closed, runOf, parted, allDigits, valueFrom, capital, lookUp, numberPiece, namePiece, signPiece, pieceOf, wordsFrom, wordsOf}
 use Rattle.words.specs.declared.Word.{Word}
 use Rattle.words.specs.declared.Gap.{Gap}
 use Rattle.words.specs.declared.Numeral.{Numeral}
@@ -30,11 +30,30 @@ spelledAt t p = take 24 (runOf (drop p t))
 abbrev pub nameAt : List ℕ → ℕ → List ℕ
 nameAt t p = map capital (spelledAt t p)
 
+-- what is left of it behind i bytes
+abbrev pub restAt : List ℕ → ℕ → ℕ → List ℕ
+restAt t p i = map capital (take (24 - i) (runOf (drop (p + i) t)))
+
 pub record NameEnds (t : List ℕ) (at r : ℕ) : Type 0 where
   pub from : at ≤ r
   pub to : r ≤ length t
   pub short : r - at ≤ 24
   pub name : spelledAt t at ≡ part t at r
+
+-- r bytes lie behind a and b in a text of n, 24 or up to its end
+pub record IsRoom (n a b r : ℕ) : Type 0 where
+  pub most : r ≤ 24
+  pub inside-a : a + r ≤ n
+  pub inside-b : b + r ≤ n
+  pub full : r < 24 → a + r < n → b + r ≡ n
+
+-- the names at a and b are the same where their rests behind r bytes are; and those differ in their first bytes or one has none
+pub record Shares (t : List ℕ) (a b r : ℕ) : Type 0 where
+  pub most : r ≤ 24
+  pub inside-a : a + r ≤ length t
+  pub inside-b : b + r ≤ length t
+  pub same : sameBytes (nameAt t a) (nameAt t b) ≡ sameBytes (restAt t a r) (restAt t b r)
+  pub apart : r < 24 → inRun (getD t (a + r) 0) ≡ true → inRun (getD t (b + r) 0) ≡ true → capital (getD t (a + r) 0) ≡ capital (getD t (b + r) 0) → ⊥
 
 -- ---- classes
 

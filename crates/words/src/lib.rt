@@ -2,11 +2,16 @@
 ghost use mathlib.Core.Path.{_≡_};
 ghost use Prim.Native.Nat.{_+_, _-_, _*_, _≤_, _<_};
 ghost use mathlib.Core.Bool.{Bool, true, false};
-ghost use lib.ListN.{length, getD, drop, replicate};
-ghost use mathlib.Core.List.{_++_};
+ghost use lib.Dec.{eqb};
+ghost use lib.ListN.{length, getD, drop};
 ghost use Rattle.paper.specs.Words.{isBlank, isDigit, inRun, isUnderscore, capital, parted, allDigits, sameBytes};
 ghost use Rattle.words.specs.Keys.{keyDigit, keyOf, keywordKeys, operandKeys, Numbered};
-ghost use Rattle.words.specs.Denoted.{part, folded, spelledAt, nameAt, NameEnds, CommentEnds, Skips, RunEnds, IsNumeral, IsRunClass, IsSign, IsSignLength, IsNumberAt, IsNameAt, IsWordAt, IsWord, IsFirstBad};
+ghost use Rattle.words.specs.Denoted.{part, folded, spelledAt, nameAt, IsRoom, Shares, NameEnds, CommentEnds, Skips, RunEnds, IsNumeral, IsRunClass, IsSign, IsSignLength, IsNumberAt, IsNameAt, IsWordAt, IsWord, IsFirstBad};
+
+pub mod held;
+
+use crate::held::reader_at;
+use crate::held::word_of;
 
 // The classes of a word. From RESERVED on they number the entries of the list of reserved words, from SIGN on those of the signs.
 pub const ENDING: u8 = 0;
@@ -59,10 +64,17 @@ fn digit(b: u8) -> bool
     48 <= b && b <= 57
 }
 
+// Whether a byte is of a run. Most are letters, which are told first.
 fn in_run(b: u8) -> bool
     ensures { λ r. ⌜ r ≡ inRun b ⌝ }
 {
-    65 <= b && b <= 90 || 97 <= b && b <= 122 || digit(b) || b == 95
+    if 97 <= b {
+        return b <= 122;
+    }
+    if 65 <= b {
+        return b <= 90 || b == 95;
+    }
+    digit(b)
 }
 
 fn folded_byte(b: u8) -> u8
@@ -269,12 +281,13 @@ fn operand_number(key: u64) -> u8
     }
 }
 
-// The class of a run that is a name or a reserved word.
+// The class of a run that is a name or a reserved word. No reserved word has one byte or more than 13.
 fn run_class(text: &[u8], at: usize, end: usize) -> u8
     requires { ⌜ (at ≤ end) × (end ≤ length (now text)) ⌝ }
     ensures { λ r. ⌜ IsRunClass (folded (now (text .entry)) at end) r ⌝ }
 {
-    if 13 < end - at {
+    let n = end - at;
+    if n < 2 || 13 < n {
         return NAME;
     }
     let key = key_of(text, at, end);
@@ -400,8 +413,8 @@ fn word_at(text: &[u8], at: usize) -> Word
     }
 }
 
-// The next word from a place on: ENDING at the text's length where none is left, BAD where none can be read.
-pub fn next_word(text: &[u8], at: usize) -> Word
+// The next word from a place on: ENDING at the text's length where none is left, BAD where none can be read. A reader's work.
+fn word_from(text: &[u8], at: usize) -> Word
     requires { ⌜ (at ≤ length (now text)) × (length (now text) ≤ 8192) ⌝ }
     ensures { λ r. ⌜ IsWord (now (text .entry)) at r ⌝ }
 {
@@ -421,6 +434,14 @@ pub fn next_word(text: &[u8], at: usize) -> Word
     }
 }
 
+// The same out of a reader, from which every word comes; for those who hold a text and a place.
+pub fn next_word(text: &[u8], at: usize) -> Word
+    requires { ⌜ (at ≤ length (now text)) × (length (now text) ≤ 8192) ⌝ }
+    ensures { λ r. ⌜ IsWord (now (text .entry)) at r ⌝ }
+{
+    word_of(reader_at(text, at))
+}
+
 // The place of the first bad word of a text.
 pub fn first_bad(text: &[u8]) -> FirstBad
     requires { ⌜ length (now text) ≤ 8192 ⌝ }
@@ -437,42 +458,6 @@ pub fn first_bad(text: &[u8]) -> FirstBad
         }
         at = w.end;
     }
-}
-
-// A name in capitals, in front of zeros.
-fn fold(text: &[u8], at: usize, end: usize) -> [u8; 24]
-    requires { ⌜ (at ≤ end) × (end ≤ length (now text)) × (end - at ≤ 24) ⌝ }
-    ensures { λ r. ⌜ r ≡ folded (now (text .entry)) at end ++ replicate (24 - (end - at)) 0 ⌝ }
-{
-    let mut out = [0u8; 24];
-    let n = end - at;
-    let mut i = 0;
-    while i < n {
-        out[i] = folded_byte(text[at + i]);
-        i += 1;
-    }
-    out
-}
-
-// Whether two parts of at most 24 bytes are the same, case of letters aside.
-fn same_part(text: &[u8], a: usize, ae: usize, b: usize, be: usize) -> bool
-    requires { ⌜ (a ≤ ae) × (ae ≤ length (now text)) × (ae - a ≤ 24) × (b ≤ be) × (be ≤ length (now text)) × (be - b ≤ 24) ⌝ }
-    ensures { λ r. ⌜ r ≡ sameBytes (folded (now (text .entry)) a ae) (folded (now (text .entry)) b be) ⌝ }
-{
-    let n = ae - a;
-    if n != be - b {
-        return false;
-    }
-    let x = fold(text, a, ae);
-    let y = fold(text, b, be);
-    let mut i = 0;
-    while i < n {
-        if x[i] != y[i] {
-            return false;
-        }
-        i += 1;
-    }
-    true
 }
 
 // A place inside the text, or its end.
@@ -501,18 +486,53 @@ pub fn name_of(text: &[u8], at: usize) -> &[u8]
     &text[a..e]
 }
 
+// Whether two bytes are the same, case of letters aside. Only bytes that lie 32 apart can be a letter in both cases.
+fn same_byte(x: u8, y: u8) -> bool
+    ensures { λ r. ⌜ r ≡ eqb (capital x) (capital y) ⌝ }
+{
+    let d = if x < y { y - x } else { x - y };
+    d == 0 || d == 32 && folded_byte(x) == folded_byte(y)
+}
+
+// How many bytes the names at two places can have before the text ends behind the later place.
+fn room(text: &[u8], a: usize, b: usize) -> usize
+    requires { ⌜ (a ≤ length (now text)) × (b ≤ length (now text)) ⌝ }
+    ensures { λ r. ⌜ IsRoom (length (now (text .entry))) a b r ⌝ }
+{
+    let n = text.len() - if a < b { b } else { a };
+    if n < 24 { n } else { 24 }
+}
+
+// How many bytes the names at two places have in common, case of letters aside, up to the first where they differ or end.
+fn shared(text: &[u8], a: usize, b: usize) -> usize
+    requires { ⌜ (a ≤ length (now text)) × (b ≤ length (now text)) ⌝ }
+    ensures { λ r. ⌜ Shares (now (text .entry)) a b r ⌝ }
+{
+    let n = room(text, a, b);
+    let mut i = 0;
+    while i < n && same_byte(text[a + i], text[b + i]) && in_run(text[a + i]) {
+        i += 1;
+    }
+    i
+}
+
+// Whether the names at two places inside the text are the same: they end together, or both go on for 24 bytes.
+fn same_from(text: &[u8], a: usize, b: usize) -> bool
+    requires { ⌜ (a ≤ length (now text)) × (b ≤ length (now text)) ⌝ }
+    ensures { λ r. ⌜ r ≡ sameBytes (nameAt (now (text .entry)) a) (nameAt (now (text .entry)) b) ⌝ }
+{
+    let i = shared(text, a, b);
+    i == 24 || !in_run(byte_at(text, a + i)) && !in_run(byte_at(text, b + i))
+}
+
 // Whether the names at two places are the same, case of letters aside. Most that differ do in their first bytes.
 pub fn same_name(text: &[u8], a: usize, b: usize) -> bool
     ensures { λ r. ⌜ r ≡ sameBytes (nameAt (now (text .entry)) a) (nameAt (now (text .entry)) b) ⌝ }
 {
     let x = byte_at(text, a);
     let y = byte_at(text, b);
-    if in_run(x) && folded_byte(x) != folded_byte(y) {
-        return false;
+    if in_run(x) {
+        return same_byte(x, y) && same_from(text, a, b);
     }
-    let i = inside(text, a);
-    let ie = name_end(text, i);
-    let j = inside(text, b);
-    let je = name_end(text, j);
-    same_part(text, i, ie, j, je)
+    !in_run(y)
 }

@@ -1,7 +1,8 @@
 -- `numbers::print_whole` ends without a fault.
 use native.Mathlib.Omega.{arith}
 use mir.Facts.{toZ-ofZ, fits-natAbs}
-use Rattle.value.proofs.Residues.{minus-one, not-below, down}
+use Rattle.value.proofs.Residues.{not-below}
+use Rattle.numbers.proofs.Signs.{minus-one, down}
 use borrow.Author.Needs.{needs}
 use Rattle.numbers.proofs.print_whole.Statement.{statement}
 use Rattle.numbers.proofs.print_whole.Tie as tie

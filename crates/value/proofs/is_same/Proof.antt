@@ -1,16 +1,19 @@
--- Neither is above the other.
+-- Two residues are the same where the values are.
+use Rattle.value.proofs.Residues.{same-residues}
 use borrow.Author.Needs.{needs}
 use Rattle.value.proofs.is_same.Statement.{statement}
 use Rattle.value.proofs.is_same.Tie as tie
 
-is-at-most-requires : tie.Need-is-at-most-requires
-is-at-most-requires c κs = search needs
+wrapped-requires : tie.Need-wrapped-requires
+wrapped-requires c κs = search needs
 
-is-at-most-requires-2 : tie.Need-is-at-most-requires-2
-is-at-most-requires-2 c κs = search needs
+wrapped-requires-2 : tie.Need-wrapped-requires-2
+wrapped-requires-2 c κs = search needs
 
 returns : tie.Need-returns
-returns c = rw (c .before .is-at-most .ensures, c .is-at-most2 .ensures)
+returns c =
+    let x = c .before .before .args in
+    rw (c .before .wrapped .ensures, c .wrapped2 .ensures) (same-residues (x .t) (x .a) (x .b))
 
 pub is-same-spec : {M : Type 1} → statement M
-is-same-spec = tie.close (tie.spec is-at-most-requires is-at-most-requires-2 returns)
+is-same-spec = tie.close (tie.spec wrapped-requires wrapped-requires-2 returns)

@@ -1,32 +1,18 @@
--- The sum of two values, brought in.
-use mir.Facts.{toZ-ofZ}
-use Rattle.value.proofs.Values.{read-back, sum-fits}
+-- The sum of two residues stands for the sum of the values.
+use mathlib.Core.Path.{_∙_}
+use Rattle.value.proofs.Residues.{sum-residue}
 use borrow.Author.Needs.{needs}
 use Rattle.value.proofs.sum.Statement.{statement}
 use Rattle.value.proofs.sum.Tie as tie
 
-value-of-requires : tie.Need-value-of-requires
-value-of-requires c κs = search needs
+add-wrapped : tie.Need-add-wrapped
+add-wrapped c = search needs
 
-value-of-requires-2 : tie.Need-value-of-requires-2
-value-of-requires-2 c κs = search needs
-
-add-residue-of : tie.Need-add-residue-of
-add-residue-of c =
-    let x = c .before .before .args in
-    let fit = sum-fits (x .t) (x .a) (x .b) in
-    rw (read-back _ _ (c .before .value-of .ensures), read-back _ _ (c .value-of2 .ensures)) fit
-
-residue-of-requires : tie.Need-residue-of-requires
-residue-of-requires c κs = search needs
+wrapped-requires : tie.Need-wrapped-requires
+wrapped-requires c κs = search needs
 
 returns : tie.Need-returns
-returns c =
-    let x = c .before .before .before .args in
-    let fit = sum-fits (x .t) (x .a) (x .b) in
-    rw (read-back _ _ (c .before .before .value-of .ensures), read-back _ _ (c .before .value-of2 .ensures), toZ-ofZ fit) at (c .residue-of .ensures)
+returns c = let x = c .before .args in c .wrapped .ensures ∙ sum-residue (x .t) (x .a) (x .b)
 
 pub sum-spec : {M : Type 1} → statement M
-sum-spec =
-    tie.close
-    (tie.spec value-of-requires value-of-requires-2 add-residue-of residue-of-requires returns)
+sum-spec = tie.close (tie.spec add-wrapped wrapped-requires returns)

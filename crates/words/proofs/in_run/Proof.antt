@@ -1,44 +1,34 @@
--- `words::in_run` meets its contract: each `||` is taken apart where its flag is made.
-use mathlib.Core.Path.{_≡_, _∙_}
-use mathlib.Core.Bool.{_||_}
-use mathlib.Core.Logic.{⊎-elim}
+-- `words::in_run` meets its contract: each test leaves one part of the bytes.
+use mathlib.Core.Bool.{or-false}
+use native.Mathlib.Omega.{arith}
 use borrow.Author.Needs.{needs}
-use borrow.Author.Tests.{le-leb, lt-leb}
-use Rattle.paper.specs.Words.{between, isLetter, isDigit}
+use borrow.Author.Tests.{le-leb, lt-leb, ne-eqb}
 use Rattle.words.proofs.in_run.Statement.{statement}
 use Rattle.words.proofs.in_run.Tie as tie
 
-first : (c : tie.Joined1) → c .if1 .if2 ≡ between 65 90 (c .before .args .b)
-first c = ⊎-elim
-    (λ w. rw (le-leb 65 (c .before .args .b) (w .0 .taken)) (w .1))
-    (λ w. rw (lt-leb 65 (c .before .args .b) (w .0 .left)) (w .1 ∙ lt-leb 65 (c .before .args .b) (w .0 .left)))
-    (c .if1 .came)
+returns : tie.Need-returns
+returns c =
+    let b = c .before .args .b in
+    rw (le-leb 97 b (c .if1 .taken), le-leb 65 b (omega arith), lt-leb b 90 (omega arith), le-leb 48 b (omega arith), lt-leb b 57 (omega arith), ne-eqb b 95 (λ q. omega arith))
+    (simp or-false)
 
-second : (c : tie.Joined2) → c .if2 .if4 ≡ isLetter (c .before .before .args .b)
-second c =
-    let b = c .before .before .args .b in
-    ⊎-elim
-    (λ w. rw (← first (c .before), w .0 .taken) (w .1 ∙ w .0 .taken))
-    (λ v. ⊎-elim
-    (λ w. rw (← first (c .before), w .0 .left, le-leb 97 b (w .1 .taken)) (w .2))
-    (λ w. rw (← first (c .before), w .0 .left, lt-leb 97 b (w .1 .left)) (w .2 ∙ lt-leb 97 b (w .1 .left)))
-    v)
-    (c .if2 .came)
+returns-2 : tie.Need-returns-2
+returns-2 c =
+    let b = c .before .before .before .args .b in
+    rw (le-leb 65 b (c .before .if2 .taken), le-leb b 90 (c .if3 .taken))
 
-third : (c : tie.Joined4) → c .if4 .if5 ≡ (isLetter (c .before .before .before .args .b) || isDigit (c .before .before .before .args .b))
-third c = ⊎-elim
-    (λ w. rw (← second (c .before), w .0 .taken) (w .1 ∙ w .0 .taken))
-    (λ w. rw (← second (c .before), w .0 .left) (w .2 ∙ w .1 .ensures))
-    (c .if4 .came)
+returns-3 : tie.Need-returns-3
+returns-3 c =
+    let b = c .before .before .before .args .b in
+    rw (le-leb 65 b (c .before .if2 .taken), lt-leb b 90 (c .if3 .left), lt-leb 97 b (c .before .before .if1 .left), le-leb 48 b (omega arith), lt-leb b 57 (omega arith))
 
 digit-requires : tie.Need-digit-requires
 digit-requires c κs = search needs
 
-returns : tie.Need-returns
-returns c = rw (← third (c .before), c .if5 .taken)
-
-returns-2 : tie.Need-returns-2
-returns-2 c = rw (← third (c .before), c .if5 .left)
+returns-4 : tie.Need-returns-4
+returns-4 c =
+    let b = c .before .before .before .args .b in
+    rw (c .digit .ensures, lt-leb 65 b (c .before .if2 .left), lt-leb 97 b (c .before .before .if1 .left), ne-eqb b 95 (λ q. omega arith)) (simp or-false)
 
 pub in-run-spec : {M : Type 1} → statement M
-in-run-spec = tie.close (tie.spec digit-requires returns returns-2)
+in-run-spec = tie.close (tie.spec returns returns-2 returns-3 digit-requires returns-4)

@@ -9,7 +9,7 @@ use borrow.Author.Needs.{needs}
 use borrow.Author.Tests.{eq-eqb, ne-eqb, leb-true, leb-false}
 use lib.ListN.{getD}
 use Rattle.words.specs.Denoted.{part}
-use Rattle.words.proofs.Runs.{part-cons, part-none, Counts, counts-none, counts-digit, counts-clamp, counts-underscore, counts-other, counts-fit, counts-fail, digit-range}
+use Rattle.words.proofs.Runs.{part-cons, part-none, Counts, counts-none, counts-digit, counts-clamp, counts-underscore, counts-other, counts-fit, counts-fail, in-range}
 use Rattle.words.proofs.numeral_of.Statement.{statement}
 use Rattle.words.proofs.numeral_of.Tie as tie
 
@@ -47,7 +47,7 @@ digit-requires c κs = search needs
 
 -- a digit's byte
 range : (c : tie.Then1 Inv-loop μ-loop) → (48 ≤ byte (c .before .before .before .before)) × (byte (c .before .before .before .before) ≤ 57)
-range c = digit-range _ (sym (c .before .digit .ensures) ∙ c .if1 .taken)
+range c = in-range 48 57 _ (sym (c .before .digit .ensures) ∙ c .if1 .taken)
 
 mul-n : tie.Need-mul-n Inv-loop μ-loop
 mul-n c = omega arith

@@ -7,6 +7,12 @@ use borrow.Author.Needs.{needs}
 use Rattle.try_runs.proofs.runs.text_as.Statement.{statement}
 use Rattle.try_runs.proofs.runs.text_as.Tie as tie
 
+short-refused-requires : tie.Need-short-refused-requires
+short-refused-requires c κs = search needs
+
+returns : tie.Need-returns
+returns c = search needs
+
 slice-aggregate-table : tie.Need-slice-aggregate-table
 slice-aggregate-table c = search needs
 
@@ -22,11 +28,11 @@ enum-known-n c = search needs
 enum-told : tie.Need-enum-told
 enum-told c = search needs
 
-returns : tie.Need-returns
-returns c = search needs
-
 returns-2 : tie.Need-returns-2
 returns-2 c = search needs
+
+returns-3 : tie.Need-returns-3
+returns-3 c = search needs
 
 mul-end : tie.Need-mul-end
 mul-end c = search needs
@@ -46,8 +52,8 @@ slice-aggregate-checked-2 c = sym (length-take-le _ _ (array-share-prefix-cells 
 checked-requires : tie.Need-checked-requires
 checked-requires c κs = search needs
 
-returns-3 : tie.Need-returns-3
-returns-3 c = search needs
+returns-4 : tie.Need-returns-4
+returns-4 c = search needs
 
 array-share-prefix-rows-2 : tie.Need-array-share-prefix-rows-2
 array-share-prefix-rows-2 c = search needs
@@ -64,30 +70,32 @@ slice-aggregate-lines-2 c = sym (length-take-le _ _ (array-share-prefix-cells-2 
 lines-requires : tie.Need-lines-requires
 lines-requires c κs = search needs
 
-returns-4 : tie.Need-returns-4
-returns-4 c = search needs
+returns-5 : tie.Need-returns-5
+returns-5 c = search needs
 
 pub text-as-spec : {M : Type 1} → statement M
 text-as-spec =
     tie.close
     (tie.spec
+    short-refused-requires
+    returns
     slice-aggregate-table
     slice-aggregate-table-2
     table-requires
     enum-known-n
     enum-told
-    returns
     returns-2
+    returns-3
     mul-end
     array-share-prefix-rows
     slice-aggregate-checked
     array-share-prefix-cells
     slice-aggregate-checked-2
     checked-requires
-    returns-3
+    returns-4
     array-share-prefix-rows-2
     slice-aggregate-lines
     array-share-prefix-cells-2
     slice-aggregate-lines-2
     lines-requires
-    returns-4)
+    returns-5)

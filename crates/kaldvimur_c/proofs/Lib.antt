@@ -1,0 +1,5 @@
+mod Bounds
+mod Answers
+mod Codes
+mod Filling
+mod Counting
