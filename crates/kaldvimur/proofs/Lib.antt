@@ -12,3 +12,4 @@ pub mod Tabling
 mod Longer
 mod Lending
 pub mod Agreeing
+pub mod Rereading

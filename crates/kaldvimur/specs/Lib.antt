@@ -6,3 +6,4 @@ pub mod Tables
 pub mod Totals
 pub mod Writing
 pub mod Agreement
+pub mod Rereading
