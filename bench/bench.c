@@ -12,7 +12,7 @@
 #include "kaldvimur.h"
 #include "programs.h"
 
-enum { ROUNDS = 7, SCANS = 64, PROGRAMS = 16, ROW_WORDS = KV_ROW * KV_MAX_ROWS };
+enum { ROUNDS = 100, SCANS = 64, PROGRAMS = 16, ROW_WORDS = KV_ROW * KV_MAX_ROWS };
 
 struct program;
 typedef void way(const struct program *p, int64_t *state, const int64_t *inputs);
@@ -122,11 +122,11 @@ static double timed(struct program *p, void (*work)(struct program *), long time
     return now() - from;
 }
 
-/* The ns of the work in the best round. A round takes 10 ms at least. */
+/* The ns of the work in the best round. A round takes 2 ms: where others use the machine too, some of many are quiet. */
 static double best(struct program *p, void (*work)(struct program *))
 {
     long times = 1;
-    while (timed(p, work, times) < 1e7) times *= 2;
+    while (timed(p, work, times) < 2e6) times *= 2;
     double least = timed(p, work, times);
     for (int r = 1; r < ROUNDS; r++) {
         double ns = timed(p, work, times);

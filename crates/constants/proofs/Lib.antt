@@ -1,5 +1,5 @@
 pub mod Given
 pub mod Nodes
-mod Types
+pub mod Types
 mod Cells
 mod Values

@@ -5,7 +5,7 @@ use mathlib.Core.Option.{Option, none, some}
 use mathlib.Core.List.{List}
 use Prim.Native.Nat.{ℕ, zero, suc, _+_, _-_, _%_, _≤_, _<_}
 use native.Mathlib.Omega.{arith}
-use borrow.Author.Tests.{ltb-true, ltb-false}
+use borrow.Author.Tests.{lt-ltb, le-ltb, ltb-true, ltb-false, ne-eqb}
 use lib.Dec.{ltb}
 use lib.ListN.{getD, drop}
 use lib.Seq.{getD-drop}
@@ -21,8 +21,8 @@ use Rattle.tree.specs.Nodes.{wordOf, kindOf}
 use Rattle.tree.specs.Trees.{ExprForm, nameAt, types, operators, placeAt, exprForms, exprAt}
 use Rattle.tree.proofs.Decodes.{none as no-more, _&_, each}
 use Rattle.tree.proofs.Frames.{nilForm}
-use Rattle.constants.specs.Answers.{given}
-use Rattle.constants.proofs.Given.{given-as}
+use Rattle.constants.specs.Answers.{given, OfName, OfType, isTyped, Offers, resultAt}
+use Rattle.constants.proofs.Given.{not-given, given-as}
 use Rattle.constants.proofs.Nodes.{first, second, expr-kind, expr-binary, expr-none, of-two}
 
 -- ---- operators
@@ -56,6 +56,30 @@ by-sort : (vs : List Variable) (q : ℕ) (o : Op) (x y : Expr) (a : Bool) → is
     → typeOf vs (binary q o x y) ≡ elim a [ true ↦ either (typeOf vs x) (typeOf vs y) | false ↦ some BOOL ]
 unfolding typeOf
 by-sort vs q o x y a e = ap (λ b. elim b [ true ↦ either (typeOf vs x) (typeOf vs y) | false ↦ some BOOL ]) e
+
+-- ---- a type of its own, else the one offered
+
+abbrev ownOr : Ty → Option Ty → Ty
+ownOr t x = elim x [ none ↦ t | some v ↦ v ]
+
+-- from what the expression says of itself
+pub in-of : (vs : List Variable) (t : Ty) (e : Expr) (x : Option Ty) → x ≡ typeOf vs e → ownOr t x ≡ typeIn vs t e
+unfolding typeIn
+in-of vs t e x h = ap (ownOr t) h
+
+-- ---- the type over operands
+
+pub result-complement : (k w : ℕ) (u : Ty) → k ≡ 8 → BOOL ≡ resultAt k w u
+result-complement k w u e = rw e refl
+
+pub result-conversion : (k w : ℕ) (u : Ty) → k ≡ 10 → getD types (w % 8) BOOL ≡ resultAt k w u
+result-conversion k w u e = rw e refl
+
+pub result-test : (k w : ℕ) (u : Ty) → 15 < k → BOOL ≡ resultAt k w u
+result-test k w u l = rw (ne-eqb k 8 (λ e. omega arith), ne-eqb k 10 (λ e. omega arith), lt-ltb 15 k l) refl
+
+pub result-same : (k w : ℕ) (u : Ty) → (k ≡ 8 → ⊥) → (k ≡ 10 → ⊥) → k ≤ 15 → u ≡ resultAt k w u
+result-same k w u a b l = rw (ne-eqb k 8 a, ne-eqb k 10 b, le-ltb 15 k l) refl
 
 -- ---- nodes
 
@@ -104,6 +128,10 @@ module _ (vs : List Variable) (t p : List ℕ) (i w : ℕ) (k : kindOf p i ≡ w
       ∙ of-two (λ v. typeOf vs (getD exprForms v nilForm t p i (first t p i) (second t p i)) ≡ typeOf vs (first t p i)) 7 9 w refl refl
       (λ d. omega arith))
 
+  pub inner-in : (u : Ty) → 6 < w → w < 11 → (w ≡ 8 → ⊥) → (w ≡ 10 → ⊥) → typeIn vs u (first t p i) ≡ typeIn vs u (exprAt t p i)
+  unfolding typeIn
+  inner-in u l m a b = ap (ownOr u) (inner-type l m a b)
+
   pub other-type : 15 < w → some BOOL ≡ typeOf vs (exprAt t p i)
   unfolding typeOf
   other-type l = go (ltb w 25) refl
@@ -116,6 +144,51 @@ module _ (vs : List Variable) (t p : List ℕ) (i w : ℕ) (k : kindOf p i ≡ w
 
   pub arithmetic-type : 10 < w → w < 16 → either (typeOf vs (first t p i)) (typeOf vs (second t p i)) ≡ typeOf vs (exprAt t p i)
   arithmetic-type l m = sym (ap (typeOf vs) (expr-binary t p i w k l (omega arith)) ∙ by-sort vs _ _ _ _ true (arithmetic-kind w m))
+
+  -- the one type of both operands, where u is offered to the whole
+  abbrev both : Ty → Ty
+  both u = operandType vs u (getD operators (w - 11) Or) (first t p i) (second t p i)
+
+  -- what has two operands is of the type that its kind gives on theirs
+  pub two-in : (u : Ty) → 10 < w → w < 25 → (v : ℕ) → resultAt w v (both u) ≡ typeIn vs u (exprAt t p i)
+  unfolding operandType
+  two-in u l m v = go (ltb 15 w) refl
+    where
+      go : (b : Bool) → ltb 15 w ≡ b → resultAt w v (both u) ≡ typeIn vs u (exprAt t p i)
+      go true e =
+          let high : 15 < w = ltb-true 15 w e in
+          sym (result-test w v (both u) high) ∙ in-of vs u (exprAt t p i) (some BOOL) (other-type high)
+      go false e =
+          let low : w ≤ 15 = ltb-false 15 w e in
+          let x = either (typeOf vs (first t p i)) (typeOf vs (second t p i)) in
+          sym (result-same w v (both u) (λ e. omega arith) (λ e. omega arith) low)
+          ∙ ap (λ a. ownOr (cond a u DINT) x) (arithmetic-kind w (omega arith))
+          ∙ in-of vs u (exprAt t p i) x (arithmetic-type l (omega arith))
+
+  -- ---- with a type of its own
+
+  pub leaf-own : 2 < w → w < 7 → isTyped (typeOf vs (exprAt t p i)) ≡ true
+  leaf-own l m = go (ltb 4 w) refl
+    where
+      go : (b : Bool) → ltb 4 w ≡ b → isTyped (typeOf vs (exprAt t p i)) ≡ true
+      go true e = ap isTyped (sym (name-type (ltb-true 4 w e) m))
+      go false e =
+          ap isTyped (sym (leaf-type (omega arith) (omega (arith, ltb-false 4 w e))))
+          ∙ ap (λ b. isTyped (given b BOOL)) (lt-ltb 2 w l)
+
+  pub first-own : 6 < w → w < 16 → (w ≡ 8 → ⊥) → (w ≡ 10 → ⊥) → isTyped (typeOf vs (first t p i)) ≡ true
+      → isTyped (typeOf vs (exprAt t p i)) ≡ true
+  first-own l m a b h = go (ltb w 11) refl
+    where
+      left : (x y : Option Ty) → isTyped x ≡ true → isTyped (either x y) ≡ true
+      left none y e = not-given e
+      left (some v) y e = refl
+
+      go : (b : Bool) → ltb w 11 ≡ b → isTyped (typeOf vs (exprAt t p i)) ≡ true
+      go true e = ap isTyped (sym (inner-type l (ltb-true w 11 e) a b)) ∙ h
+      go false e =
+          ap isTyped (sym (arithmetic-type (omega (arith, ltb-false w 11 e)) m))
+          ∙ left (typeOf vs (first t p i)) (typeOf vs (second t p i)) h
 
 -- ---- what is made of types
 
@@ -137,13 +210,43 @@ second-either true u x y h e = absurd (true≢false e)
 second-either false u x y h e = ap (λ z. either z y) h
 
 module _ (vs : List Variable) (t : Ty) (e : Expr) (b : Bool) (u : Ty) (h : given b u ≡ typeOf vs e) where
-  pub in-as : (d : Bool) → b ≡ d → elim (given d u) [ none ↦ t | some v ↦ v ] ≡ typeIn vs t e
+  pub in-as : (d : Bool) → b ≡ d → ownOr t (given d u) ≡ typeIn vs t e
+  in-as d s = in-of vs t e (given d u) (sym (given-as b d u s) ∙ h)
+
+-- what has a type is of it, whatever type is offered
+pub known-in : (vs : List Variable) (t : Ty) (e : Expr) (u : Ty) → some u ≡ typeOf vs e → u ≡ typeIn vs t e
+known-in vs t e u h = in-of vs t e (some u) h
+
+-- a name or an element is of its variable's type; q is the place of the name
+module _ (vs : List Variable) (t p : List ℕ) (i w : ℕ) (k : kindOf p i ≡ w) (l : 4 < w) (m : w < 7) where
+  pub name-at : (q : ℕ) (b : Bool) (ty : Ty) → q ≡ placeAt p i → OfName vs (nameAt t q) b ty → OfType vs (exprAt t p i) b ty
+  name-at q b ty e h d u =
+      h d ∙ ap (λ q. typeOfName vs (nameAt t q)) e ∙ known-in vs u (exprAt t p i) _ (name-type vs t p i w k l m)
+
+-- what has a type of its own is of it, and its operands are of theirs, whatever is offered
+module _ (vs : List Variable) (t u : Ty) where
+  pub own-in : (e : Expr) → isTyped (typeOf vs e) ≡ true → typeIn vs t e ≡ typeIn vs u e
   unfolding typeIn
-  in-as d s = ap (λ x. elim x [ none ↦ t | some v ↦ v ]) (sym (given-as b d u s) ∙ h)
+  own-in e h = go (typeOf vs e) h
+    where
+      go : (x : Option Ty) → isTyped x ≡ true → ownOr t x ≡ ownOr u x
+      go none h = not-given h
+      go (some v) h = refl
+
+  pub own-operands : (q : ℕ) (o : Op) (l r : Expr) → isTyped (typeOf vs (binary q o l r)) ≡ true
+      → operandType vs t o l r ≡ operandType vs u o l r
+  unfolding typeOf operandType
+  own-operands q o l r h = go (isArithmetic (sortOf o)) (either (typeOf vs l) (typeOf vs r)) h
+    where
+      go : (a : Bool) (x : Option Ty) → isTyped (elim a [ true ↦ x | false ↦ some BOOL ]) ≡ true
+          → ownOr (cond a t DINT) x ≡ ownOr (cond a u DINT) x
+      go true none h = not-given h
+      go false none h = refl
+      go a (some v) h = refl
 
 module _ (vs : List Variable) (t : Ty) (o : Op) (l r : Expr) where
   abbrev settled : Bool → Option Ty → Ty
-  settled a x = elim x [ none ↦ cond a t DINT | some v ↦ v ]
+  settled a x = ownOr (cond a t DINT) x
 
   -- what the two sides say
   operands : (x : Option Ty) (a : Bool) → x ≡ either (typeOf vs l) (typeOf vs r) → isArithmetic (sortOf o) ≡ a
@@ -161,3 +264,25 @@ module _ (vs : List Variable) (t : Ty) (o : Op) (l r : Expr) where
 
       pub operand-neither : d ≡ false → (a : Bool) → isArithmetic (sortOf o) ≡ a → cond a t DINT ≡ operandType vs t o l r
       operand-neither s a e = operands none a (sym (given-as d false v s) ∙ right ∙ second-either b u _ _ left no-left) e
+
+  -- the first operand where the one type of both is offered
+  pub operand-in : typeIn vs (operandType vs t o l r) l ≡ operandType vs t o l r
+  operand-in = go (typeOf vs l) refl
+    where
+      go : (x : Option Ty) → x ≡ typeOf vs l → typeIn vs (operandType vs t o l r) l ≡ operandType vs t o l r
+      go none e = sym (in-of vs (operandType vs t o l r) l none e)
+      go (some v) e = sym (known-in vs (operandType vs t o l r) l v e) ∙ operand-left true v e refl
+
+  -- what is offered to the first operand
+  module _ (u : Ty) (h : Offers vs t o l r u) where
+    -- what f makes of it is the same in the one type of both, where f makes the same of any for an operand with a type of its own
+    pub offered-as : {A : Type 0} (f : Ty → A) → (isTyped (typeOf vs l) ≡ true → f u ≡ f (operandType vs t o l r))
+        → f u ≡ f (operandType vs t o l r)
+    offered-as f own = go (isTyped (typeOf vs l)) refl
+      where
+        go : (b : Bool) → isTyped (typeOf vs l) ≡ b → f u ≡ f (operandType vs t o l r)
+        go true e = own e
+        go false e = ap f (h e)
+
+    pub offered-in : typeIn vs u l ≡ operandType vs t o l r
+    offered-in = offered-as (λ v. typeIn vs v l) (own-in vs u (operandType vs t o l r) l) ∙ operand-in

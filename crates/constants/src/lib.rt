@@ -1,21 +1,21 @@
 // Types of sound expressions, and what can be worked out before the program runs.
 // A text, a pool, a table and what the cells hold are lent to each function; the variables are those that the table lists.
 ghost use mathlib.Core.Path.{_≡_};
-ghost use mathlib.Core.Bool.{not, _&&_};
+ghost use mathlib.Core.Bool.{true, not, _&&_};
 ghost use mathlib.Core.Option.{some};
 ghost use Prim.Native.Nat.{_+_, _*_, _-_, _≤_, _<_};
 ghost use lib.IntN.{pos};
 ghost use lib.ListN.{length, getD};
-ghost use Rattle.paper.specs.declared.Ty.the-variants.{Dint as DINT};
+ghost use Rattle.paper.specs.declared.Ty.the-variants.{Bool as BOOL};
 ghost use Rattle.paper.specs.declared.Op.the-variants.{Or};
 ghost use Rattle.paper.specs.Types.{negate, convert, bit, isTrue, decode, divides};
-ghost use Rattle.paper.specs.Typing.{isZero, typeOfName, typeOf, typeIn, operandType};
+ghost use Rattle.paper.specs.Typing.{isZero, typeOfName, typeOf, operandType};
 ghost use Rattle.paper.specs.Plain as Plain;
-ghost use Rattle.paper.specs.Meaning.{_>>=_ as _then_, operate, variableCell, elementCell, value, wholeValue, cellOf};
+ghost use Rattle.paper.specs.Meaning.{_>>=_ as _then_, operate, variableCell, elementCell, wholeValue, cellOf};
 ghost use Rattle.tree.specs.Nodes.{kindOf, childOf};
 ghost use Rattle.tree.specs.Trees.{nameAt, operators, exprAt};
 ghost use Rattle.variables.specs.Table.{listedIn};
-ghost use Rattle.constants.specs.Answers.{typed, valued, wholed, celled, cellBetween, LeafValue};
+ghost use Rattle.constants.specs.Answers.{typed, valued, wholed, celled, cellBetween, OfName, OfType, ValueIn, TypedAt, Offers, resultAt, LeafValue};
 use paper::Op;
 use paper::Ty;
 use tree::child;
@@ -43,10 +43,11 @@ pub struct Typed {
     pub ty: Ty,
 }
 
-// A residue, or none where there is no value.
+// A residue and the type that it is of, or none where there is no value.
 pub struct Valued {
     pub some: bool,
     pub residue: u32,
+    pub ty: Ty,
 }
 
 // A whole number, or none.
@@ -55,10 +56,11 @@ pub struct Wholed {
     pub value: i64,
 }
 
-// A cell, or none.
+// A cell and its variable's type, or none and DINT.
 pub struct Celled {
     pub some: bool,
     pub cell: usize,
+    pub ty: Ty,
 }
 
 // ---- types
@@ -136,15 +138,6 @@ pub fn type_of_expression(text: &[u8], pool: &[u16], table: &[u16], i: usize) ->
     type_of_expression(text, pool, table, child(pool, i, 2))
 }
 
-// The type of an expression where `t` is offered.
-pub fn type_in(text: &[u8], pool: &[u16], table: &[u16], t: Ty, i: usize) -> Ty
-    requires { ⌜ 4 * i + 4 ≤ length (now pool) ⌝ }
-    ensures { λ r. ⌜ r ≡ typeIn (listedIn (now (text .entry)) (now (pool .entry)) (now (table .entry))) t (exprAt (now (text .entry)) (now (pool .entry)) i) ⌝ }
-{
-    let x = type_of_expression(text, pool, table, i);
-    if x.some { x.ty } else { t }
-}
-
 // The operator of a node's kind, the first and the last beyond the ends.
 pub fn operator_at(k: u16) -> Op
     ensures { λ r. ⌜ r ≡ getD operators (k - 11) Or ⌝ }
@@ -188,31 +181,83 @@ pub fn operand_type(text: &[u8], pool: &[u16], table: &[u16], t: Ty, i: usize) -
     if kind(pool, i) < 16 { t } else { Ty::Dint }
 }
 
+// Whether an expression begins with what has a type of its own, and so has one itself; a number has none.
+pub fn is_typed(pool: &[u16], i: usize) -> bool
+    requires { ⌜ 4 * i + 4 ≤ length (now pool) ⌝ }
+    ensures { λ r. ⌜ TypedAt (now (pool .entry)) i r ⌝ }
+{
+    let k = kind(pool, i);
+    if k < 7 {
+        return 2 < k;
+    }
+    if k == 8 {
+        return true;
+    }
+    if k == 10 {
+        return true;
+    }
+    if 15 < k {
+        return true;
+    }
+    is_typed(pool, child(pool, i, 1))
+}
+
+// The type that is offered to the first of two operands: where it has its own, any will do, and no name is looked up for it.
+pub fn offered_first(text: &[u8], pool: &[u16], table: &[u16], t: Ty, i: usize) -> Ty
+    requires { ⌜ 4 * i + 4 ≤ length (now pool) ⌝ }
+    ensures { λ r. ⌜ Offers (listedIn (now (text .entry)) (now (pool .entry)) (now (table .entry))) t
+        (getD operators (kindOf (now (pool .entry)) i - 11) Or)
+        (exprAt (now (text .entry)) (now (pool .entry)) (childOf (now (pool .entry)) i 1))
+        (exprAt (now (text .entry)) (now (pool .entry)) (childOf (now (pool .entry)) i 2)) r ⌝ }
+{
+    if is_typed(pool, child(pool, i, 1)) {
+        return t;
+    }
+    operand_type(text, pool, table, t, i)
+}
+
+// The type of a node of the kind `k`, whose word 2 is `w`, over operands of the type `u`.
+pub fn result_type(k: u16, w: u16, u: Ty) -> Ty
+    ensures { λ r. ⌜ r ≡ resultAt k w u ⌝ }
+{
+    if k == 8 {
+        return Ty::Bool;
+    }
+    if k == 10 {
+        return type_at(w % 8);
+    }
+    if 15 < k { Ty::Bool } else { u }
+}
+
 // ---- cells
 
 // The cell of a variable that is no array.
 pub fn variable_cell(text: &[u8], pool: &[u16], table: &[u16], place: u16) -> Celled
     requires { ⌜ 4 ≤ length (now pool) ⌝ }
-    ensures { λ r. ⌜ celled r ≡ variableCell (listedIn (now (text .entry)) (now (pool .entry)) (now (table .entry))) (nameAt (now (text .entry)) place) ⌝ }
+    ensures { λ r. ⌜ (celled r ≡ variableCell (listedIn (now (text .entry)) (now (pool .entry)) (now (table .entry))) (nameAt (now (text .entry)) place))
+        × OfName (listedIn (now (text .entry)) (now (pool .entry)) (now (table .entry))) (nameAt (now (text .entry)) place) (r .some) (r .ty) ⌝ }
 {
     let v = find(text, table, place);
     if v < table.len() / 4 {
-        if !is_array(pool, declaration_of(pool, table, v)) {
+        let j = declaration_of(pool, table, v);
+        if !is_array(pool, j) {
             return Celled {
                 some: true,
                 cell: word(table, v, 2) as usize,
+                ty: type_of(pool, j),
             };
         }
     }
     Celled {
         some: false,
         cell: 0,
+        ty: Ty::Dint,
     }
 }
 
-// The cell of the element `n` of an array from `lo` to `hi`, if it lies in the array.
-fn cell_from(first: u16, lo: u32, hi: u32, n: usize) -> Celled
-    ensures { λ r. ⌜ celled r ≡ cellBetween first lo hi n ⌝ }
+// The cell of the element `n` of an array from `lo` to `hi` of the type `t`, if it lies in the array.
+fn cell_from(first: u16, lo: u32, hi: u32, t: Ty, n: usize) -> Celled
+    ensures { λ r. ⌜ (celled r ≡ cellBetween first lo hi n) × (r .some ≡ true → r .ty ≡ t) ⌝ }
 {
     let a = lo as usize;
     let end = (hi as usize) + 1;
@@ -222,19 +267,22 @@ fn cell_from(first: u16, lo: u32, hi: u32, n: usize) -> Celled
             return Celled {
                 some: true,
                 cell: at,
+                ty: t,
             };
         }
     }
     Celled {
         some: false,
         cell: 0,
+        ty: Ty::Dint,
     }
 }
 
 // The same of the array of a name.
 fn cell_at(text: &[u8], pool: &[u16], table: &[u16], place: u16, n: usize) -> Celled
     requires { ⌜ 4 ≤ length (now pool) ⌝ }
-    ensures { λ r. ⌜ celled r ≡ elementCell (listedIn (now (text .entry)) (now (pool .entry)) (now (table .entry))) (nameAt (now (text .entry)) place) (some (pos n)) ⌝ }
+    ensures { λ r. ⌜ (celled r ≡ elementCell (listedIn (now (text .entry)) (now (pool .entry)) (now (table .entry))) (nameAt (now (text .entry)) place) (some (pos n)))
+        × OfName (listedIn (now (text .entry)) (now (pool .entry)) (now (table .entry))) (nameAt (now (text .entry)) place) (r .some) (r .ty) ⌝ }
 {
     let v = find(text, table, place);
     if v < table.len() / 4 {
@@ -243,24 +291,27 @@ fn cell_at(text: &[u8], pool: &[u16], table: &[u16], place: u16, n: usize) -> Ce
             let b = bounds_of(pool, j);
             let lo = wide_at(pool, child(pool, b, 1));
             let hi = wide_at(pool, child(pool, b, 2));
-            return cell_from(word(table, v, 2), lo, hi, n);
+            return cell_from(word(table, v, 2), lo, hi, type_of(pool, j), n);
         }
     }
     Celled {
         some: false,
         cell: 0,
+        ty: Ty::Dint,
     }
 }
 
 // The same of a whole number.
 fn cell_signed(text: &[u8], pool: &[u16], table: &[u16], place: u16, z: i64) -> Celled
     requires { ⌜ 4 ≤ length (now pool) ⌝ }
-    ensures { λ r. ⌜ celled r ≡ elementCell (listedIn (now (text .entry)) (now (pool .entry)) (now (table .entry))) (nameAt (now (text .entry)) place) (some z) ⌝ }
+    ensures { λ r. ⌜ (celled r ≡ elementCell (listedIn (now (text .entry)) (now (pool .entry)) (now (table .entry))) (nameAt (now (text .entry)) place) (some z))
+        × OfName (listedIn (now (text .entry)) (now (pool .entry)) (now (table .entry))) (nameAt (now (text .entry)) place) (r .some) (r .ty) ⌝ }
 {
     if z < 0 {
         return Celled {
             some: false,
             cell: 0,
+            ty: Ty::Dint,
         };
     }
     cell_at(text, pool, table, place, z as usize)
@@ -269,7 +320,8 @@ fn cell_signed(text: &[u8], pool: &[u16], table: &[u16], place: u16, z: i64) -> 
 // The same where the subscript may have no value.
 fn element_cell(text: &[u8], pool: &[u16], table: &[u16], place: u16, z: Wholed) -> Celled
     requires { ⌜ 4 ≤ length (now pool) ⌝ }
-    ensures { λ r. ⌜ celled r ≡ elementCell (listedIn (now (text .entry)) (now (pool .entry)) (now (table .entry))) (nameAt (now (text .entry)) place) (wholed z) ⌝ }
+    ensures { λ r. ⌜ (celled r ≡ elementCell (listedIn (now (text .entry)) (now (pool .entry)) (now (table .entry))) (nameAt (now (text .entry)) place) (wholed z))
+        × OfName (listedIn (now (text .entry)) (now (pool .entry)) (now (table .entry))) (nameAt (now (text .entry)) place) (r .some) (r .ty) ⌝ }
 {
     if z.some {
         return cell_signed(text, pool, table, place, z.value);
@@ -277,6 +329,7 @@ fn element_cell(text: &[u8], pool: &[u16], table: &[u16], place: u16, z: Wholed)
     Celled {
         some: false,
         cell: 0,
+        ty: Ty::Dint,
     }
 }
 
@@ -284,25 +337,30 @@ fn element_cell(text: &[u8], pool: &[u16], table: &[u16], place: u16, z: Wholed)
 
 // What a cell holds, 0 beyond the end.
 fn look(env: &[u32], cell: Celled) -> Valued
-    ensures { λ r. ⌜ valued r ≡ (celled cell then λ c. some (Plain.look (now (env .entry)) c)) ⌝ }
+    ensures { λ r. ⌜ (valued r ≡ (celled cell then λ c. some (Plain.look (now (env .entry)) c))) × (r .ty ≡ cell .ty) ⌝ }
 {
     let c = cell.cell;
+    let t = cell.ty;
     if c < env.len() {
+        let x = env[c];
         return Valued {
             some: cell.some,
-            residue: env[c],
+            residue: x,
+            ty: t,
         };
     }
     Valued {
         some: cell.some,
         residue: 0,
+        ty: t,
     }
 }
 
 // The residue as a whole number.
-fn whole_of(t: Ty, x: Valued) -> Wholed
-    ensures { λ r. ⌜ wholed r ≡ (valued x then λ a. some (decode t a)) ⌝ }
+fn whole_of(x: Valued) -> Wholed
+    ensures { λ r. ⌜ wholed r ≡ (valued x then λ a. some (decode (x .ty) a)) ⌝ }
 {
+    let t = x.ty;
     Wholed {
         some: x.some,
         value: value_of(t, x.residue),
@@ -310,32 +368,36 @@ fn whole_of(t: Ty, x: Valued) -> Wholed
 }
 
 // Unary minus.
-fn minus_of(t: Ty, x: Valued) -> Valued
-    ensures { λ r. ⌜ valued r ≡ (valued x then λ a. some (negate t a)) ⌝ }
+fn minus_of(x: Valued) -> Valued
+    ensures { λ r. ⌜ (valued r ≡ (valued x then λ a. some (negate (x .ty) a))) × (r .ty ≡ x .ty) ⌝ }
 {
+    let t = x.ty;
     Valued {
         some: x.some,
         residue: negated(t, x.residue),
+        ty: t,
     }
 }
 
 // NOT.
 fn complement_of(x: Valued) -> Valued
-    ensures { λ r. ⌜ valued r ≡ (valued x then λ a. some (bit (not (isTrue a)))) ⌝ }
+    ensures { λ r. ⌜ (valued r ≡ (valued x then λ a. some (bit (not (isTrue a))))) × (r .ty ≡ BOOL) ⌝ }
 {
     Valued {
         some: x.some,
         residue: bit_of(!is_true(x.residue)),
+        ty: Ty::Bool,
     }
 }
 
 // A conversion from the type `t` to the type `u`.
 fn conversion_of(t: Ty, u: Ty, x: Valued) -> Valued
-    ensures { λ r. ⌜ valued r ≡ (valued x then λ a. some (convert t u a)) ⌝ }
+    ensures { λ r. ⌜ (valued r ≡ (valued x then λ a. some (convert t u a))) × (r .ty ≡ u) ⌝ }
 {
     Valued {
         some: x.some,
         residue: converted(t, u, x.residue),
+        ty: u,
     }
 }
 
@@ -354,7 +416,8 @@ fn by_zero(k: u16, t: Ty, b: u32) -> bool
 
 // The operator of a kind on two operands of the type `t`.
 fn result_of(k: u16, t: Ty, x: Valued, y: Valued) -> Valued
-    ensures { λ r. ⌜ valued r ≡ (valued x then λ a. (valued y then λ b. operate (getD operators (k - 11) Or) t a b)) ⌝ }
+    ensures { λ r. ⌜ (valued r ≡ (valued x then λ a. (valued y then λ b. operate (getD operators (k - 11) Or) t a b)))
+        × (r .some ≡ true → r .ty ≡ resultAt k 0 t) ⌝ }
 {
     if !x.some {
         return x;
@@ -366,35 +429,50 @@ fn result_of(k: u16, t: Ty, x: Valued, y: Valued) -> Valued
         return Valued {
             some: false,
             residue: 0,
+            ty: t,
         };
     }
     Valued {
         some: true,
         residue: apply(operator_at(k), t, x.residue, y.residue),
+        ty: result_type(k, 0, t),
     }
 }
 
 // ---- values
 
-// The residue of a number, of FALSE or of TRUE, where `t` is offered.
-fn leaf_value(pool: &[u16], t: Ty, i: usize) -> u32
+// The value of a number, of FALSE or of TRUE, where `t` is offered.
+fn leaf_value(pool: &[u16], t: Ty, i: usize) -> Valued
     requires { ⌜ (4 * i + 4 ≤ length (now pool)) × (kindOf (now pool) i < 5) ⌝ }
     ensures { λ r. ⌜ LeafValue (now (pool .entry)) t i r ⌝ }
 {
     let k = kind(pool, i);
     if k == 0 {
-        return 0;
+        return Valued {
+            some: true,
+            residue: 0,
+            ty: Ty::Bool,
+        };
     }
     if k < 3 {
-        return residue_of(t, whole(pool, i));
+        return Valued {
+            some: true,
+            residue: residue_of(t, whole(pool, i)),
+            ty: t,
+        };
     }
-    bit_of(k == 4)
+    Valued {
+        some: true,
+        residue: bit_of(k == 4),
+        ty: Ty::Bool,
+    }
 }
 
 // The cell of the name or element at a node.
 pub fn cell_of(text: &[u8], pool: &[u16], table: &[u16], env: &[u32], i: usize) -> Celled
     requires { ⌜ 4 * i + 4 ≤ length (now pool) ⌝ }
-    ensures { λ r. ⌜ celled r ≡ cellOf (listedIn (now (text .entry)) (now (pool .entry)) (now (table .entry))) (now (env .entry)) (exprAt (now (text .entry)) (now (pool .entry)) i) ⌝ }
+    ensures { λ r. ⌜ (celled r ≡ cellOf (listedIn (now (text .entry)) (now (pool .entry)) (now (table .entry))) (now (env .entry)) (exprAt (now (text .entry)) (now (pool .entry)) i))
+        × OfType (listedIn (now (text .entry)) (now (pool .entry)) (now (table .entry))) (exprAt (now (text .entry)) (now (pool .entry)) i) (r .some) (r .ty) ⌝ }
 {
     let k = kind(pool, i);
     if k == 5 {
@@ -407,13 +485,14 @@ pub fn cell_of(text: &[u8], pool: &[u16], table: &[u16], env: &[u32], i: usize) 
     Celled {
         some: false,
         cell: 0,
+        ty: Ty::Dint,
     }
 }
 
 // The value of the expression at a node with one operand.
 fn unary_value(text: &[u8], pool: &[u16], table: &[u16], env: &[u32], t: Ty, i: usize) -> Valued
     requires { ⌜ (4 * i + 4 ≤ length (now pool)) × (6 < kindOf (now pool) i) × (kindOf (now pool) i < 11) ⌝ }
-    ensures { λ r. ⌜ valued r ≡ value (listedIn (now (text .entry)) (now (pool .entry)) (now (table .entry))) (now (env .entry)) t (exprAt (now (text .entry)) (now (pool .entry)) i) ⌝ }
+    ensures { λ r. ⌜ ValueIn (listedIn (now (text .entry)) (now (pool .entry)) (now (table .entry))) (now (env .entry)) t (exprAt (now (text .entry)) (now (pool .entry)) i) r ⌝ }
 {
     let k = kind(pool, i);
     let a = child(pool, i, 1);
@@ -429,16 +508,17 @@ fn unary_value(text: &[u8], pool: &[u16], table: &[u16], env: &[u32], t: Ty, i: 
     if k == 9 {
         return x;
     }
-    minus_of(type_in(text, pool, table, t, a), x)
+    minus_of(x)
 }
 
-// The value of the expression at a node with two operands.
+// The value of the expression at a node with two operands; the first one's value tells the type of both.
 fn binary_value(text: &[u8], pool: &[u16], table: &[u16], env: &[u32], t: Ty, i: usize) -> Valued
     requires { ⌜ (4 * i + 4 ≤ length (now pool)) × (10 < kindOf (now pool) i) × (kindOf (now pool) i < 25) ⌝ }
-    ensures { λ r. ⌜ valued r ≡ value (listedIn (now (text .entry)) (now (pool .entry)) (now (table .entry))) (now (env .entry)) t (exprAt (now (text .entry)) (now (pool .entry)) i) ⌝ }
+    ensures { λ r. ⌜ ValueIn (listedIn (now (text .entry)) (now (pool .entry)) (now (table .entry))) (now (env .entry)) t (exprAt (now (text .entry)) (now (pool .entry)) i) r ⌝ }
 {
-    let u = operand_type(text, pool, table, t, i);
-    let x = value_in(text, pool, table, env, u, child(pool, i, 1));
+    let offered = offered_first(text, pool, table, t, i);
+    let x = value_in(text, pool, table, env, offered, child(pool, i, 1));
+    let u = x.ty;
     let y = value_in(text, pool, table, env, u, child(pool, i, 2));
     result_of(kind(pool, i), u, x, y)
 }
@@ -446,14 +526,11 @@ fn binary_value(text: &[u8], pool: &[u16], table: &[u16], env: &[u32], t: Ty, i:
 // The value of the expression at a node, where `t` is offered.
 pub fn value_in(text: &[u8], pool: &[u16], table: &[u16], env: &[u32], t: Ty, i: usize) -> Valued
     requires { ⌜ 4 * i + 4 ≤ length (now pool) ⌝ }
-    ensures { λ r. ⌜ valued r ≡ value (listedIn (now (text .entry)) (now (pool .entry)) (now (table .entry))) (now (env .entry)) t (exprAt (now (text .entry)) (now (pool .entry)) i) ⌝ }
+    ensures { λ r. ⌜ ValueIn (listedIn (now (text .entry)) (now (pool .entry)) (now (table .entry))) (now (env .entry)) t (exprAt (now (text .entry)) (now (pool .entry)) i) r ⌝ }
 {
     let k = kind(pool, i);
     if k < 5 {
-        return Valued {
-            some: true,
-            residue: leaf_value(pool, t, i),
-        };
+        return leaf_value(pool, t, i);
     }
     if k < 7 {
         return look(env, cell_of(text, pool, table, env, i));
@@ -467,6 +544,7 @@ pub fn value_in(text: &[u8], pool: &[u16], table: &[u16], env: &[u32], t: Ty, i:
     Valued {
         some: true,
         residue: 0,
+        ty: Ty::Bool,
     }
 }
 
@@ -475,6 +553,5 @@ pub fn whole_in(text: &[u8], pool: &[u16], table: &[u16], env: &[u32], t: Ty, i:
     requires { ⌜ 4 * i + 4 ≤ length (now pool) ⌝ }
     ensures { λ r. ⌜ wholed r ≡ wholeValue (listedIn (now (text .entry)) (now (pool .entry)) (now (table .entry))) (now (env .entry)) t (exprAt (now (text .entry)) (now (pool .entry)) i) ⌝ }
 {
-    let x = value_in(text, pool, table, env, t, i);
-    whole_of(type_in(text, pool, table, t, i), x)
+    whole_of(value_in(text, pool, table, env, t, i))
 }

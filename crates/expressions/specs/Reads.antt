@@ -16,7 +16,8 @@ use Rattle.paper.specs.Source as S
 use Rattle.paper.specs.Source.{Name, Expr, Stmts, Label, Bounds, Initial, Named, Declared, Program}
 use Rattle.paper.specs.Reading as R
 use Rattle.paper.specs.Reading.{Read, ok}
-use Rattle.words.specs.Denoted.{wordsAt, denoted}
+use Rattle.words.specs.declared.Word.{Word}
+use Rattle.words.specs.Denoted.{wordsAt, denoted, IsWord}
 use Rattle.tree.specs.Nodes.{Same}
 use Rattle.tree.specs.Trees as T
 use Rattle.tree.specs.Trees.{types, operators, exprAt, frontAt, nameAt}
@@ -141,3 +142,7 @@ pub record ExpectDid (t : List ℕ) (at c n : ℕ) (r : Parsed) : Type 0 where
   pub step : eqb c 255 ≡ false → eqb c 0 ≡ false → at < r .at + r .code
   pub taken : (ts : List Token) → wordsAt t at ≡ given ts → (s : String) → KeyIs s c
       → Passed t (R.expect s ts) r
+
+-- the same of any text and place where w is the next word
+abbrev pub ExpectedDid : Word → ℕ → ℕ → Parsed → Type 0
+ExpectedDid w c n r = (t : List ℕ) (at : ℕ) → IsWord t at w → ExpectDid t at c n r

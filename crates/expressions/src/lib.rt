@@ -3,7 +3,8 @@
 ghost use mathlib.Core.Path.{_≡_};
 ghost use Prim.Native.Nat.{_+_, _*_, _%_, _/_, _<_, _≤_};
 ghost use lib.ListN.{length};
-ghost use Rattle.expressions.specs.Reads.{Room, ExpectDid, OperandDid, SignedDid, PrimaryDid, WrappedDid, BracketedDid, NamedDid, ExpressionDid, JoinedDid};
+ghost use Rattle.words.specs.Denoted.{IsWord};
+ghost use Rattle.expressions.specs.Reads.{Room, ExpectDid, ExpectedDid, OperandDid, SignedDid, PrimaryDid, WrappedDid, BracketedDid, NamedDid, ExpressionDid, JoinedDid};
 
 pub mod classes;
 
@@ -21,6 +22,7 @@ use classes::operator;
 use tree::put;
 use words::NAME;
 use words::NUMBER;
+use words::Word;
 use words::next_word;
 
 // What reading answers: code 0, the place behind what was read, the last node and the root; or a refusal's number and its place.
@@ -58,7 +60,13 @@ pub fn expect(text: &[u8], at: usize, class: u8, count: usize) -> Parsed
     requires { ⌜ (length (now text) ≤ 8192) × (at ≤ length (now text)) ⌝ }
     ensures { λ r. ⌜ ExpectDid (now (text .entry)) at class count r ⌝ }
 {
-    let w = next_word(text, at);
+    expected(next_word(text, at), class, count)
+}
+
+// The word `w`, which must be of a class.
+pub fn expected(w: Word, class: u8, count: usize) -> Parsed
+    ensures { λ r. ⌜ ExpectedDid w class count r ⌝ }
+{
     if w.class == class {
         Parsed {
             code: 0,
@@ -108,28 +116,30 @@ pub fn operand(text: &[u8], at: usize, nest: usize, pool: &mut [u16], count: usi
             put(pool, count + 1, 2, low(v.value), high(v.value), w.at as u16);
             return leaf(v.end, count + 1);
         }
-        return signed(text, w.end, nest, pool, count, 7, w.at);
+        return signed(text, w.end, v, nest, pool, count, 7, w.at);
     }
     if w.class == NOT {
-        return signed(text, w.end, nest, pool, count, 8, w.at);
+        let v = next_word(text, w.end);
+        return signed(text, w.end, v, nest, pool, count, 8, w.at);
     }
-    primary(text, at, nest, pool, count)
+    primary(text, at, w, nest, pool, count)
 }
 
-// What a unary sign at `place` stands before.
+// What a unary sign at `place` stands before; its first word is `w`.
 fn signed(
     text: &[u8],
     at: usize,
+    w: Word,
     nest: usize,
     pool: &mut [u16],
     count: usize,
     kind: u16,
     place: usize,
 ) -> Parsed
-    requires { ⌜ Room (now text) (now pool) at (count + 1) × (place < at) × (7 ≤ kind) × (kind ≤ 8) ⌝ }
+    requires { ⌜ Room (now text) (now pool) at (count + 1) × IsWord (now text) at w × (place < at) × (7 ≤ kind) × (kind ≤ 8) ⌝ }
     ensures { λ r. ⌜ SignedDid (now (text .entry)) (now (pool .entry)) (now (pool .exit)) at nest count kind place r ⌝ }
 {
-    let r = primary(text, at, nest, pool, count);
+    let r = primary(text, at, w, nest, pool, count);
     if r.code != 0 {
         return r;
     }
@@ -137,12 +147,18 @@ fn signed(
     leaf(r.at, r.count + 1)
 }
 
-// A number, a truth value, a name with or without subscript, a conversion, brackets.
-pub fn primary(text: &[u8], at: usize, nest: usize, pool: &mut [u16], count: usize) -> Parsed
-    requires { ⌜ Room (now text) (now pool) at count ⌝ }
+// A number, a truth value, a name with or without subscript, a conversion, brackets; `w` is its first word.
+pub fn primary(
+    text: &[u8],
+    at: usize,
+    w: Word,
+    nest: usize,
+    pool: &mut [u16],
+    count: usize,
+) -> Parsed
+    requires { ⌜ Room (now text) (now pool) at count × IsWord (now text) at w ⌝ }
     ensures { λ r. ⌜ PrimaryDid (now (text .entry)) (now (pool .entry)) (now (pool .exit)) at nest count r ⌝ }
 {
-    let w = next_word(text, at);
     if w.class == NAME {
         return named(text, w.at, w.end, nest, pool, count);
     }
@@ -160,15 +176,17 @@ pub fn primary(text: &[u8], at: usize, nest: usize, pool: &mut [u16], count: usi
     }
     let c = conversion(w.class);
     if c == 0 {
-        return wrapped(text, at, nest, pool, count, 9, 0, w.at);
+        return wrapped(text, at, w, nest, pool, count, 9, 0, w.at);
     }
-    wrapped(text, w.end, nest, pool, count, 10, c, w.at)
+    let v = next_word(text, w.end);
+    wrapped(text, w.end, v, nest, pool, count, 10, c, w.at)
 }
 
-// Brackets, or a conversion's, under a node of their own at `place`.
+// Brackets that begin with `w`, or a conversion's, under a node of their own at `place`.
 fn wrapped(
     text: &[u8],
     at: usize,
+    w: Word,
     nest: usize,
     pool: &mut [u16],
     count: usize,
@@ -176,10 +194,10 @@ fn wrapped(
     b: u16,
     place: usize,
 ) -> Parsed
-    requires { ⌜ Room (now text) (now pool) at count × (place < 65536) × (9 ≤ kind) × (kind ≤ 10) ⌝ }
+    requires { ⌜ Room (now text) (now pool) at count × IsWord (now text) at w × (place < 65536) × (9 ≤ kind) × (kind ≤ 10) ⌝ }
     ensures { λ r. ⌜ WrappedDid (now (text .entry)) (now (pool .entry)) (now (pool .exit)) at nest count kind b place r ⌝ }
 {
-    let r = bracketed(text, at, nest, pool, count);
+    let r = bracketed(text, at, w, nest, pool, count);
     if r.code != 0 {
         return r;
     }
@@ -187,12 +205,11 @@ fn wrapped(
     leaf(r.at, r.count + 1)
 }
 
-// ( expression )
-fn bracketed(text: &[u8], at: usize, nest: usize, pool: &mut [u16], count: usize) -> Parsed
-    requires { ⌜ Room (now text) (now pool) at count ⌝ }
+// ( expression ), if the word `w` opens it.
+fn bracketed(text: &[u8], at: usize, w: Word, nest: usize, pool: &mut [u16], count: usize) -> Parsed
+    requires { ⌜ Room (now text) (now pool) at count × IsWord (now text) at w ⌝ }
     ensures { λ r. ⌜ BracketedDid (now (text .entry)) (now (pool .entry)) (now (pool .exit)) at nest count r ⌝ }
 {
-    let w = next_word(text, at);
     if w.class != ROUND {
         return broken(w.at, count);
     }

@@ -15,7 +15,7 @@ use Rattle.shaped.specs.declared.Shape.{Shape}
 use Rattle.shaped.specs.Shapes.{shaped, IsShape, ShapeDid}
 use Rattle.paper.proofs.Whys.{code-pos}
 use Rattle.judge.specs.declared.rules.Ruled.{Ruled}
-use Rattle.judge.specs.Rules.{ruled, sound, Fits, IsRefused, RuledAs}
+use Rattle.judge.specs.Rules.{ruled, sound, TextFits, Fits, IsRefused, RuledAs}
 use Rattle.paper.proofs.Whys.{few-numbers}
 
 -- ---- the shape, then the rules
@@ -53,14 +53,13 @@ module _ (t p : List ℕ) (s : Shape) (d : ShapeDid t p s) where
     pub well-shaped : (table : List ℕ) (r : Ruled) → RuledAs t p table (ruled (programAt t p (s .root))) r → RuledAs t p table (sound t) r
     well-shaped table r i = subst (λ a. RuledAs t p table (a >>= ruled) r) (sym (well t p (shaped t) s (d .is) h)) i
 
-    pub lies : (scratch : List ℕ) → 32772 ≤ length p → 8192 ≤ length scratch → (4 * s .root + 4 ≤ length p) × (s .root ≤ length scratch)
-    lies scratch lp ls =
-        let short = d .short h in
-        let root = d .few in
-        (omega arith, omega arith)
+    module _ (old table scratch : List ℕ) (room : TextFits t old table scratch) where
+      pub lies : length p ≡ length old → (4 * s .root + 4 ≤ length p) × (s .root ≤ length scratch)
+      lies same =
+          let root = d .few in
+          (omega (arith, room .tree (d .short h)), omega (arith, room .names (d .short h)))
 
-    pub fits : (table scratch : List ℕ) → 32768 ≤ length table → 8192 ≤ length scratch → Fits t p table scratch (s .root)
-    fits table scratch lt ls =
-        let short = d .short h in
-        let few = few-in t (shortEnough t) (wordsOf t) (programAt t p (s .root)) refl (well t p (shaped t) s (d .is) h) in
-        record { names = omega arith; variables = omega arith }
+      pub fits : Fits t p table scratch (s .root)
+      fits =
+          let few = few-in t (shortEnough t) (wordsOf t) (programAt t p (s .root)) refl (well t p (shaped t) s (d .is) h) in
+          record { names = omega (arith, room .names (d .short h)); variables = omega (arith, room .variables (d .short h)) }

@@ -8,7 +8,16 @@ use Rattle.paper.specs.Judge.{Sound}
 use Rattle.tree.specs.Trees.{programAt}
 use Rattle.variables.specs.Table.{listedIn}
 use Rattle.plain.specs.Flat.{listAt}
+use Rattle.shaped.specs.Shapes.{TreeFits}
 use Rattle.judge.specs.declared.Judged.{Judged}
+
+-- the lent buffers have room: the pool p and the table for a text of this length, the pool q for every ST0
+pub record Roomy (t p table q : List ℕ) : Type 0 where
+  pub tree : TreeFits t p
+  pub nodes : length p ≤ 262144
+  pub variables : length t ≤ 8192 → 4 * length t ≤ length table
+  pub plain : 60800 ≤ length q
+  pub numbered : length q ≤ 262144
 
 -- the accepted program a: its tree in the pool p, its variables in the front of the table, its ST0 in the pool q
 pub record Stands (t p table q : List ℕ) (a : Sound) (r : Judged) : Type 0 where

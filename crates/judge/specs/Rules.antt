@@ -12,7 +12,7 @@ use Rattle.paper.specs.Heights.{heightFaults}
 use Rattle.paper.specs.Judge.{faultless}
 use Rattle.tree.specs.Trees.{programAt}
 use Rattle.variables.specs.Table.{listedIn}
-use Rattle.shaped.specs.Shapes.{shaped}
+use Rattle.shaped.specs.Shapes.{TreeFits, shaped}
 use Rattle.judge.specs.declared.rules.Ruled.{Ruled}
 
 -- 5 to 7 of a program
@@ -26,6 +26,12 @@ ruled pr = do
 -- 1 to 7 of a text
 abbrev pub sound : List ℕ → Answer Program
 sound t = shaped t >>= ruled
+
+-- the pool p, the table and the scratch have room for a node, a variable and a name to each byte of a text that is short enough
+pub record TextFits (t p table scratch : List ℕ) : Type 0 where
+  pub tree : TreeFits t p
+  pub variables : length t ≤ 8192 → 4 * length t ≤ length table
+  pub names : length t ≤ 8192 → length t ≤ length scratch
 
 -- the table and the scratch have room for the variables of the program at the root
 pub record Fits (t p table scratch : List ℕ) (root : ℕ) : Type 0 where

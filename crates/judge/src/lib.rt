@@ -2,11 +2,9 @@
 mod rules;
 
 ghost use mathlib.Core.Path.{_≡_};
-ghost use Prim.Native.Nat.{_≤_};
-ghost use lib.ListN.{length};
 ghost use Rattle.paper.specs.Judge as Judge;
-ghost use Rattle.judge.specs.Judged.{JudgedAs};
-ghost use Rattle.judge.specs.Rules.{RuledAs, sound};
+ghost use Rattle.judge.specs.Judged.{Roomy, JudgedAs};
+ghost use Rattle.judge.specs.Rules.{TextFits, RuledAs, sound};
 use unwind::unwind_program;
 
 // Number 0 and the program: its node, the numbers of variables and cells, the list and the weight of its ST0; or a refusal's number and place.
@@ -37,7 +35,7 @@ fn refused(number: u8, place: usize) -> Judged
 
 // The first of the refusals 1 to 7 of a text: its tree goes into `pool`, its variables into `table`.
 pub fn ruled(text: &[u8], pool: &mut [u16], table: &mut [u16], scratch: &mut [u16]) -> rules::Ruled
-    requires { ⌜ (32772 ≤ length (now pool)) × (32768 ≤ length (now table)) × (8192 ≤ length (now scratch)) ⌝ }
+    requires { ⌜ TextFits (now text) (now pool) (now table) (now scratch) ⌝ }
     ensures { λ r. ⌜ RuledAs (now (text .entry)) (now (pool .exit)) (now (table .exit)) (sound (now (text .entry))) r ⌝ }
 {
     let s = shaped::shape_of(text, pool);
@@ -47,13 +45,12 @@ pub fn ruled(text: &[u8], pool: &mut [u16], table: &mut [u16], scratch: &mut [u1
     rules::rules(text, pool, s.root, table, scratch)
 }
 
-// A text judged: its tree goes into `pool`, its variables into `table`, its ST0 into `plain`.
+// A text judged: its tree goes into `pool`, its variables into `table`, its ST0 into `plain`, which is scratch before.
 pub fn judge(text: &[u8], pool: &mut [u16], table: &mut [u16], plain: &mut [u16]) -> Judged
-    requires { ⌜ (32772 ≤ length (now pool)) × (length (now pool) ≤ 262144) × (32768 ≤ length (now table)) × (60800 ≤ length (now plain)) × (length (now plain) ≤ 262144) ⌝ }
+    requires { ⌜ Roomy (now text) (now pool) (now table) (now plain) ⌝ }
     ensures { λ r. ⌜ JudgedAs (now (text .entry)) (now (pool .exit)) (now (table .exit)) (now (plain .exit)) (Judge.judge (now (text .entry))) r ⌝ }
 {
-    let mut scratch = [0u16; 8192];
-    let s = ruled(text, pool, table, &mut scratch);
+    let s = ruled(text, pool, table, plain);
     if s.number != 0 {
         return refused(s.number, s.place);
     }

@@ -21,12 +21,12 @@ use Rattle.demands.specs.InTypes.{InTypes, ReadingsIn}
 use Rattle.demands.specs.Demand3.{states}
 use Rattle.demands.proofs.Theorem.{demand-3}
 use Rattle.rows.proofs.Total.{total}
-use Rattle.kaldvimur.specs.declared.Outcome.{Outcome}
-use Rattle.kaldvimur.specs.Outcomes.{left}
+use Rattle.lent.specs.declared.Outcome.{Outcome}
+use Rattle.lent.specs.Outcomes.{left}
+use Rattle.lent.specs.Tables as Tables
+use Rattle.lent.specs.Tables.{lentWith}
 use Rattle.kaldvimur.specs.Scans as Text
 use Rattle.kaldvimur.specs.Scans.{stateOf}
-use Rattle.kaldvimur.specs.Tables as Tables
-use Rattle.kaldvimur.specs.Tables.{lentWith}
 use Rattle.kaldvimur.specs.Agreement.{Runs, ended, goes, AgreeForAll}
 use Rattle.kaldvimur.proofs.Lending.{Lends, lends}
 

@@ -16,8 +16,8 @@ use Rattle.print.specs.Printed.{limit}
 use Rattle.paper.proofs.Whys.{code-pos}
 use Rattle.demands.proofs.Prints.{few-steps}
 use Rattle.judge.specs.declared.Judged.{Judged}
-use Rattle.kaldvimur.specs.declared.Outcome.{Outcome}
-use Rattle.kaldvimur.specs.declared.Outcome.the-variants.{Done, Refused as Undone}
+use Rattle.lent.specs.declared.Outcome.{Outcome}
+use Rattle.lent.specs.declared.Outcome.the-variants.{Done, Refused as Undone}
 use Rattle.judge.specs.Judged.{Stands, JudgedAs}
 use Rattle.kaldvimur.specs.Prints.{Lies, Prints, Counts}
 use Rattle.kaldvimur.specs.Outcomes.{IsWhy, Refuses, PrintDid}

@@ -11,9 +11,10 @@ use Rattle.paper.specs.declared.Why.{Why}
 use Rattle.paper.specs.declared.Why.the-variants.{NoRoom, TooLong}
 use Rattle.paper.specs.Refusals.{Answer, refused, given, _>>=_}
 use Rattle.paper.specs.Judge.{Sound, judge, printOf, printInto, room, over}
-use Rattle.kaldvimur.specs.declared.Outcome.{Outcome}
-use Rattle.kaldvimur.specs.declared.Outcome.the-variants.{Done, Refused}
-use Rattle.kaldvimur.specs.Outcomes.{outcome, left, printed, PrintDid}
+use Rattle.lent.specs.declared.Outcome.{Outcome}
+use Rattle.lent.specs.declared.Outcome.the-variants.{Done, Refused}
+use Rattle.lent.specs.Outcomes.{outcome, left}
+use Rattle.kaldvimur.specs.Outcomes.{printed, PrintDid}
 
 -- the print by the judgement
 abbrev into : List ℕ → Answer Sound → Answer (List ℕ)

@@ -19,9 +19,10 @@ use Rattle.demands.proofs.Cells.{few-cells}
 use Rattle.demands.proofs.Rows.{table-few}
 use Rattle.demands.proofs.Rule11.{ReadsBack, table-keeps}
 use Rattle.demands.proofs.Theorem.{walk-means}
+use Rattle.lent.specs.Outcomes.{left}
+use Rattle.lent.specs.Tables.{lentWith}
 use Rattle.kaldvimur.specs.declared.tables.Tabled.the-variants.{Made}
-use Rattle.kaldvimur.specs.Outcomes.{left}
-use Rattle.kaldvimur.specs.Tables.{tabled, TableDid, lentWith}
+use Rattle.kaldvimur.specs.Tables.{tabled, TableDid}
 use Rattle.kaldvimur.proofs.Longer.{over-long, cells-there, longer}
 
 -- ---- the program's own table

@@ -5,9 +5,6 @@ pub mod Answers
 pub mod Fits
 pub mod Starting
 pub mod Scanning
-pub mod Totals
-pub mod Checking
-pub mod Following
 pub mod Tabling
 mod Longer
 mod Lending

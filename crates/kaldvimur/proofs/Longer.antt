@@ -13,7 +13,7 @@ use Rattle.paper.specs.Names.{Info}
 use Rattle.paper.specs.Tables.{Line, Table, types, lineOf, linesOf, linesKeep, infosOf, cellsKeep, nextOf, tableIn}
 use Rattle.paper.specs.Judge.{over}
 use Rattle.demands.proofs.Answers.{none-some, bind-some}
-use Rattle.kaldvimur.specs.Tables.{lentWith}
+use Rattle.lent.specs.Tables.{lentWith}
 
 -- a buffer gets no shorter
 pub over-long : {A : Type 0} (new old : List A) → length old ≤ length (over new old)

@@ -9,9 +9,10 @@ use Rattle.paper.specs.Refusals.{given}
 use Rattle.paper.specs.Judge.{Sound, judge, printOf, verdict, over, printInto}
 use Rattle.demands.proofs.Answers.{given-same}
 use Rattle.again.proofs.Again.{read-again}
-use Rattle.kaldvimur.specs.declared.Outcome.{Outcome}
-use Rattle.kaldvimur.specs.declared.Outcome.the-variants.{Done}
-use Rattle.kaldvimur.specs.Outcomes.{outcome, printed, PrintDid}
+use Rattle.lent.specs.declared.Outcome.{Outcome}
+use Rattle.lent.specs.declared.Outcome.the-variants.{Done}
+use Rattle.lent.specs.Outcomes.{outcome}
+use Rattle.kaldvimur.specs.Outcomes.{printed, PrintDid}
 use Rattle.kaldvimur.proofs.Fits.{print-done}
 use Rattle.kaldvimur.specs.Rereading.{Repeats, RereadForAll}
 

@@ -25,8 +25,8 @@ use Rattle.demands.proofs.PlainRuns.{run-steps}
 use Rattle.demands.proofs.Prints.{few-steps}
 use Rattle.judge.specs.declared.Judged.{Judged}
 use Rattle.judge.specs.Judged.{Stands, JudgedAs}
-use Rattle.kaldvimur.specs.declared.Outcome.{Outcome}
-use Rattle.kaldvimur.specs.declared.Outcome.the-variants.{Done, Refused}
+use Rattle.lent.specs.declared.Outcome.{Outcome}
+use Rattle.lent.specs.declared.Outcome.the-variants.{Done, Refused}
 use Rattle.kaldvimur.specs.Outcomes.{Refuses}
 use Rattle.kaldvimur.specs.Scans.{ScanDid}
 use Rattle.kaldvimur.specs.States.{CarriedOut, ScansIn}

@@ -14,8 +14,8 @@ use Rattle.cells.specs.Numbers.{Started, StartIn}
 use Rattle.demands.proofs.Accepted.{accepted}
 use Rattle.judge.specs.declared.Judged.{Judged}
 use Rattle.judge.specs.Judged.{JudgedAs}
-use Rattle.kaldvimur.specs.declared.Outcome.{Outcome}
-use Rattle.kaldvimur.specs.declared.Outcome.the-variants.{Done, Refused}
+use Rattle.lent.specs.declared.Outcome.{Outcome}
+use Rattle.lent.specs.declared.Outcome.the-variants.{Done, Refused}
 use Rattle.kaldvimur.specs.Outcomes.{Refuses}
 use Rattle.kaldvimur.specs.Scans.{StartDid}
 use Rattle.kaldvimur.proofs.Answers.{refusal, acceptance}

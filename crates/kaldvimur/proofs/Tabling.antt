@@ -23,14 +23,15 @@ use Rattle.demands.proofs.Theorem.{walk-means}
 use Rattle.demands.proofs.Rows.{table-few}
 use Rattle.judge.specs.declared.Judged.{Judged}
 use Rattle.judge.specs.Judged.{JudgedAs}
+use Rattle.lent.specs.Outcomes.{left}
+use Rattle.lent.proofs.Checking.{test, no-room, has-room, have-room}
 use Rattle.kaldvimur.specs.declared.tables.Tabled.{Tabled}
 use Rattle.kaldvimur.specs.declared.tables.Tabled.the-variants.{Made, Refused}
-use Rattle.kaldvimur.specs.Outcomes.{IsWhy, left}
+use Rattle.kaldvimur.specs.Outcomes.{IsWhy}
 use Rattle.kaldvimur.specs.Tables.{tabled, TableDid}
 use Rattle.kaldvimur.specs.Writing.{Writable, Writes}
 use Rattle.kaldvimur.proofs.Starting.{own-cells}
 use Rattle.kaldvimur.proofs.Answers.{lies, refusal, acceptance}
-use Rattle.kaldvimur.proofs.Checking.{test, no-room, has-room, have-room}
 
 -- ---- an accepted program's cells and rows
 

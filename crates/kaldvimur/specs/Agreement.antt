@@ -5,11 +5,12 @@ use Prim.Native.Nat.{ℕ}
 use lib.IntN.{ℤ}
 use Rattle.paper.specs.Tables.{Lent}
 use Rattle.paper.specs.Judge.{scanLent, scanChecked}
-use Rattle.kaldvimur.specs.declared.Outcome.{Outcome}
+use Rattle.lent.specs.declared.Outcome.{Outcome}
+use Rattle.lent.specs.Tables as Table
+use Rattle.lent.specs.Tables.{lentWith}
 use Rattle.kaldvimur.specs.declared.tables.Tabled.the-variants.{Made}
 use Rattle.kaldvimur.specs.Scans as Text
-use Rattle.kaldvimur.specs.Tables as Table
-use Rattle.kaldvimur.specs.Tables.{TableDid, lentWith}
+use Rattle.kaldvimur.specs.Tables.{TableDid}
 
 -- each scan from the state that the one before left; a scan that is refused leaves it as it was
 pub data Runs (D : List ℤ → List ℤ → List ℤ → Outcome → Type 0) : List (List ℤ) → List ℤ → List (List ℤ) → Type 0 where

@@ -3,7 +3,6 @@ pub mod Outcomes
 pub mod Scans
 pub mod States
 pub mod Tables
-pub mod Totals
 pub mod Writing
 pub mod Agreement
 pub mod Rereading

@@ -6,9 +6,9 @@ use lib.IntN.{ℤ}
 use lib.ListN.{length}
 use Rattle.paper.specs.Refusals.{Answer, refused, given, _>>=_}
 use Rattle.paper.specs.Judge.{Sound, judge, startInto, Scanned, scanFrom}
-use Rattle.kaldvimur.specs.declared.Outcome.{Outcome}
-use Rattle.kaldvimur.specs.declared.Outcome.the-variants.{Done, Refused}
-use Rattle.kaldvimur.specs.Outcomes.{outcome, left}
+use Rattle.lent.specs.declared.Outcome.{Outcome}
+use Rattle.lent.specs.declared.Outcome.the-variants.{Done, Refused}
+use Rattle.lent.specs.Outcomes.{outcome, left}
 
 -- how many cells an accepted text has
 abbrev pub celled : Answer Sound → ℕ

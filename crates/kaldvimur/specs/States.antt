@@ -9,7 +9,7 @@ use Rattle.paper.specs.Judge.{lent, over}
 use Rattle.cells.specs.Numbers.{readIn}
 use Rattle.run.specs.Parts.{ranFrom}
 use Rattle.judge.specs.declared.Judged.{Judged}
-use Rattle.kaldvimur.specs.declared.Outcome.{Outcome}
+use Rattle.lent.specs.declared.Outcome.{Outcome}
 use Rattle.kaldvimur.specs.Prints.{Of}
 use Rattle.kaldvimur.specs.Scans.{ScanDid}
 

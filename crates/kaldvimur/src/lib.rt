@@ -2,8 +2,11 @@
 pub mod states;
 pub mod tables;
 
+// Done, with what the function counts; or why not, and a place in the text.
+pub use lent::Outcome;
 ghost use mathlib.Core.Path.{_≡_};
 ghost use Rattle.paper.specs.Judge.{verdict};
+ghost use Rattle.judge.specs.Judged.{Roomy};
 ghost use Rattle.kaldvimur.specs.Outcomes.{IsWhy, Refuses, PrintDid};
 ghost use Rattle.kaldvimur.specs.Prints.{Lies, Prints, Counts};
 use judge::Judged;
@@ -11,11 +14,13 @@ use judge::judge;
 use paper::Verdict;
 use paper::Why;
 
-// Done, with what the function counts; or why not, and a place in the text.
-pub enum Outcome {
-    Done(usize),
-    Refused { why: Why, place: usize },
-}
+// The bytes of a short text and of the longest; a short one is judged in shorter arrays, since it takes time to clear one.
+const SHORT: usize = 1024;
+
+const LONGEST: usize = 8192;
+
+// The words that every ST0 has room in.
+const PLAIN: usize = 60800;
 
 // The refusal of a number.
 fn why_of(number: u8) -> Why
@@ -75,22 +80,20 @@ fn counted(text: &[u8], pool: &[u16], table: &[u16], plain: &[u16], j: Judged) -
     printed(text, pool, table, plain, j, &mut none)
 }
 
-// The four numbers of a text, or why it is refused and where.
-pub fn accept(text: &[u8]) -> Verdict
+// The four numbers of a text, or why it is refused and where; it is judged in lent buffers.
+fn accept_in(text: &[u8], pool: &mut [u16], table: &mut [u16], plain: &mut [u16]) -> Verdict
+    requires { ⌜ Roomy (now text) (now pool) (now table) (now plain) ⌝ }
     ensures { λ r. ⌜ r ≡ verdict (now (text .entry)) ⌝ }
 {
-    let mut pool = [0u16; 32772];
-    let mut table = [0u16; 32768];
-    let mut plain = [0u16; 60800];
-    let j = judge(text, &mut pool, &mut table, &mut plain);
+    let j = judge(text, pool, table, plain);
     if j.number != 0 {
         return Verdict::Refused {
             why: why_of(j.number),
             place: j.place,
         };
     }
-    let figure = plain::figure_of(&plain, j.list);
-    let length = counted(text, &pool, &table, &plain, j);
+    let figure = plain::figure_of(plain, j.list);
+    let length = counted(text, pool, table, plain, j);
     Verdict::Accepted {
         cells: j.cells,
         weight: j.weight,
@@ -99,22 +102,56 @@ pub fn accept(text: &[u8]) -> Verdict
     }
 }
 
-// ST0 as text into `out`; the number of its bytes.
-pub fn print(text: &[u8], out: &mut [u8]) -> Outcome
+// The four numbers of a text, or why it is refused and where.
+pub fn accept(text: &[u8]) -> Verdict
+    ensures { λ r. ⌜ r ≡ verdict (now (text .entry)) ⌝ }
+{
+    let mut plain = [0u16; PLAIN];
+    if text.len() <= SHORT {
+        let mut pool = [0u16; 4 * SHORT + 4];
+        let mut table = [0u16; 4 * SHORT];
+        return accept_in(text, &mut pool, &mut table, &mut plain);
+    }
+    let mut pool = [0u16; 4 * LONGEST + 4];
+    let mut table = [0u16; 4 * LONGEST];
+    accept_in(text, &mut pool, &mut table, &mut plain)
+}
+
+// ST0 as text into `out`, from a text that is judged in lent buffers.
+fn print_in(
+    text: &[u8],
+    pool: &mut [u16],
+    table: &mut [u16],
+    plain: &mut [u16],
+    out: &mut [u8],
+) -> Outcome
+    requires { ⌜ Roomy (now text) (now pool) (now table) (now plain) ⌝ }
     ensures { λ r. ⌜ PrintDid (now (text .entry)) (now (out .entry)) (now (out .exit)) r ⌝ }
 {
-    let mut pool = [0u16; 32772];
-    let mut table = [0u16; 32768];
-    let mut plain = [0u16; 60800];
-    let j = judge(text, &mut pool, &mut table, &mut plain);
+    let j = judge(text, pool, table, plain);
     if j.number != 0 {
         return refusal(j);
     }
-    if out.len() < counted(text, &pool, &table, &plain, j) {
+    if out.len() < counted(text, pool, table, plain, j) {
         return Outcome::Refused {
             why: Why::NoRoom,
             place: 0,
         };
     }
-    Outcome::Done(printed(text, &pool, &table, &plain, j, out))
+    Outcome::Done(printed(text, pool, table, plain, j, out))
+}
+
+// ST0 as text into `out`; the number of its bytes.
+pub fn print(text: &[u8], out: &mut [u8]) -> Outcome
+    ensures { λ r. ⌜ PrintDid (now (text .entry)) (now (out .entry)) (now (out .exit)) r ⌝ }
+{
+    let mut plain = [0u16; PLAIN];
+    if text.len() <= SHORT {
+        let mut pool = [0u16; 4 * SHORT + 4];
+        let mut table = [0u16; 4 * SHORT];
+        return print_in(text, &mut pool, &mut table, &mut plain, out);
+    }
+    let mut pool = [0u16; 4 * LONGEST + 4];
+    let mut table = [0u16; 4 * LONGEST];
+    print_in(text, &mut pool, &mut table, &mut plain, out)
 }

@@ -3,23 +3,31 @@ ghost use Prim.Native.Nat.{_+_, _*_, _≤_};
 ghost use lib.ListN.{length};
 ghost use Rattle.plain.specs.Flat.{listAt};
 ghost use Rattle.cells.specs.Numbers.{Says};
+ghost use Rattle.judge.specs.Judged.{Roomy};
 ghost use Rattle.kaldvimur.specs.Prints.{Lies};
 ghost use Rattle.kaldvimur.specs.Scans.{StartDid, ScanDid};
 ghost use Rattle.kaldvimur.specs.States.{CarriedOut, ScansIn};
+use crate::LONGEST;
 use crate::Outcome;
+use crate::PLAIN;
+use crate::SHORT;
 use crate::refusal;
 use judge::Judged;
 use judge::judge;
 use paper::Why;
 
-// The declared values into the front of `state`; the number of cells.
-pub fn start(text: &[u8], state: &mut [i64]) -> Outcome
+// The declared values into the front of `state`, from a text that is judged in lent buffers.
+fn start_in(
+    text: &[u8],
+    pool: &mut [u16],
+    table: &mut [u16],
+    plain: &mut [u16],
+    state: &mut [i64],
+) -> Outcome
+    requires { ⌜ Roomy (now text) (now pool) (now table) (now plain) ⌝ }
     ensures { λ r. ⌜ StartDid (now (text .entry)) (now (state .entry)) (now (state .exit)) r ⌝ }
 {
-    let mut pool = [0u16; 32772];
-    let mut table = [0u16; 32768];
-    let mut plain = [0u16; 60800];
-    let j = judge(text, &mut pool, &mut table, &mut plain);
+    let j = judge(text, pool, table, plain);
     if j.number != 0 {
         return refusal(j);
     }
@@ -30,8 +38,23 @@ pub fn start(text: &[u8], state: &mut [i64]) -> Outcome
         };
     }
     let end = 4 * j.variables;
-    cells::start(&pool, &table[..end], state);
+    cells::start(pool, &table[..end], state);
     Outcome::Done(j.cells)
+}
+
+// The declared values into the front of `state`; the number of cells.
+pub fn start(text: &[u8], state: &mut [i64]) -> Outcome
+    ensures { λ r. ⌜ StartDid (now (text .entry)) (now (state .entry)) (now (state .exit)) r ⌝ }
+{
+    let mut plain = [0u16; PLAIN];
+    if text.len() <= SHORT {
+        let mut pool = [0u16; 4 * SHORT + 4];
+        let mut table = [0u16; 4 * SHORT];
+        return start_in(text, &mut pool, &mut table, &mut plain, state);
+    }
+    let mut pool = [0u16; 4 * LONGEST + 4];
+    let mut table = [0u16; 4 * LONGEST];
+    start_in(text, &mut pool, &mut table, &mut plain, state)
 }
 
 // The readings into the input cells, and the list carried out: the number of steps, 65535 standing for more.
@@ -78,16 +101,36 @@ fn scan_judged(
     Outcome::Done(carry_out(&cells[..n], plain, list, state, inputs))
 }
 
+// A scan of a text that is judged in lent buffers.
+fn scan_in(
+    text: &[u8],
+    pool: &mut [u16],
+    table: &mut [u16],
+    plain: &mut [u16],
+    state: &mut [i64],
+    inputs: &[i64],
+) -> Outcome
+    requires { ⌜ Roomy (now text) (now pool) (now table) (now plain) ⌝ }
+    ensures { λ r. ⌜ ScanDid (now (text .entry)) (now (inputs .entry)) (now (state .entry)) (now (state .exit)) r ⌝ }
+{
+    let j = judge(text, pool, table, plain);
+    if j.number != 0 {
+        return refusal(j);
+    }
+    scan_judged(pool, table, plain, j, state, inputs)
+}
+
 // A scan: the readings into the input cells, then the statements; the number of steps.
 pub fn scan(text: &[u8], state: &mut [i64], inputs: &[i64]) -> Outcome
     ensures { λ r. ⌜ ScanDid (now (text .entry)) (now (inputs .entry)) (now (state .entry)) (now (state .exit)) r ⌝ }
 {
-    let mut pool = [0u16; 32772];
-    let mut table = [0u16; 32768];
-    let mut plain = [0u16; 60800];
-    let j = judge(text, &mut pool, &mut table, &mut plain);
-    if j.number != 0 {
-        return refusal(j);
+    let mut plain = [0u16; PLAIN];
+    if text.len() <= SHORT {
+        let mut pool = [0u16; 4 * SHORT + 4];
+        let mut table = [0u16; 4 * SHORT];
+        return scan_in(text, &mut pool, &mut table, &mut plain, state, inputs);
     }
-    scan_judged(&pool, &table, &plain, j, state, inputs)
+    let mut pool = [0u16; 4 * LONGEST + 4];
+    let mut table = [0u16; 4 * LONGEST];
+    scan_in(text, &mut pool, &mut table, &mut plain, state, inputs)
 }

@@ -1,49 +1,25 @@
 // The next-state table: made from a text, checked, and scans from it.
-ghost use mathlib.Core.Path.{_≡_};
-ghost use mathlib.Core.Bool.{_&&_};
-ghost use Prim.Native.Nat.{_*_};
-ghost use lib.Dec.{leb};
-ghost use lib.ListN.{length};
 ghost use Rattle.paper.specs.Judge.{scanLent, scanChecked};
-ghost use Rattle.kaldvimur.specs.declared.Outcome.the-variants.{Refused};
-ghost use Rattle.kaldvimur.specs.Tables.{TableDid, CheckDid, ScanDid, lentWith};
+ghost use Rattle.judge.specs.Judged.{Roomy};
+ghost use Rattle.lent.specs.Tables.{CheckDid, ScanDid, lentWith};
+ghost use Rattle.kaldvimur.specs.Tables.{TableDid};
 ghost use Rattle.kaldvimur.specs.Writing.{Writable, Writes};
-ghost use Rattle.kaldvimur.specs.Totals.{Readable, Runnable, Runs, Scannable, Follows, Scans};
+use crate::LONGEST;
 use crate::Outcome;
+use crate::PLAIN;
+use crate::SHORT;
 use crate::why_of;
 use cells::cells_of;
-use cells::fit;
-use cells::hold;
-use cells::lend;
 use judge::Judged;
 use judge::judge;
+use lent::has_room;
 use paper::Why;
-use rows::cells_known;
-use rows::next_state;
-use rows::run_rows;
-use rows::table_keeps;
 use table::table_of;
 
 // The numbers of rows and cells; or why not, and a place in the text.
 pub enum Tabled {
     Made { rows: usize, cells: usize },
     Refused { why: Why, place: usize },
-}
-
-// ---- refusals 10 to 12
-
-// A refusal that no place in a text has.
-fn refused(why: Why) -> Outcome
-    ensures { λ r. ⌜ r ≡ Refused why 0 ⌝ }
-{
-    Outcome::Refused { why, place: 0 }
-}
-
-// Whether the buffers of a table hold as many rows and cells as it counts.
-fn has_room(rows: &[u32], cells: &[u32], n_rows: usize, n_cells: usize) -> bool
-    ensures { λ r. ⌜ r ≡ leb (4 * «n_rows») (length (now (rows .entry))) && leb «n_cells» (length (now (cells .entry))) ⌝ }
-{
-    n_rows <= rows.len() / 4 && n_cells <= cells.len()
 }
 
 // ---- a table made
@@ -68,14 +44,19 @@ fn write(
     table_of(plain, list, &infos[..count], rows, cells)
 }
 
-// The next-state table of a text into the front of `rows` and `cells`.
-pub fn table(text: &[u8], rows: &mut [u32], cells: &mut [u32]) -> Tabled
+// The next-state table of a text that is judged in lent buffers.
+fn table_in(
+    text: &[u8],
+    pool: &mut [u16],
+    table: &mut [u16],
+    plain: &mut [u16],
+    rows: &mut [u32],
+    cells: &mut [u32],
+) -> Tabled
+    requires { ⌜ Roomy (now text) (now pool) (now table) (now plain) ⌝ }
     ensures { λ r. ⌜ TableDid (now (text .entry)) (now (rows .entry)) (now (cells .entry)) (now (rows .exit)) (now (cells .exit)) r ⌝ }
 {
-    let mut pool = [0u16; 32772];
-    let mut table = [0u16; 32768];
-    let mut plain = [0u16; 60800];
-    let j = judge(text, &mut pool, &mut table, &mut plain);
+    let j = judge(text, pool, table, plain);
     if j.number != 0 {
         return Tabled::Refused {
             why: why_of(j.number),
@@ -89,11 +70,26 @@ pub fn table(text: &[u8], rows: &mut [u32], cells: &mut [u32]) -> Tabled
             place: 0,
         };
     }
-    let n = write(&pool, &table, &plain, j, rows, cells);
+    let n = write(pool, table, plain, j, rows, cells);
     Tabled::Made {
         rows: n,
         cells: count,
     }
+}
+
+// The next-state table of a text into the front of `rows` and `cells`.
+pub fn table(text: &[u8], rows: &mut [u32], cells: &mut [u32]) -> Tabled
+    ensures { λ r. ⌜ TableDid (now (text .entry)) (now (rows .entry)) (now (cells .entry)) (now (rows .exit)) (now (cells .exit)) r ⌝ }
+{
+    let mut plain = [0u16; PLAIN];
+    if text.len() <= SHORT {
+        let mut pool = [0u16; 4 * SHORT + 4];
+        let mut table = [0u16; 4 * SHORT];
+        return table_in(text, &mut pool, &mut table, &mut plain, rows, cells);
+    }
+    let mut pool = [0u16; 4 * LONGEST + 4];
+    let mut table = [0u16; 4 * LONGEST];
+    table_in(text, &mut pool, &mut table, &mut plain, rows, cells)
 }
 
 // ---- a table lent
@@ -102,78 +98,7 @@ pub fn table(text: &[u8], rows: &mut [u32], cells: &mut [u32]) -> Tabled
 pub fn check_table(rows: &[u32], cells: &[u32], n_rows: usize, n_cells: usize) -> Outcome
     ensures { λ r. ⌜ CheckDid (lentWith (now (rows .entry)) (now (cells .entry)) «n_rows» «n_cells») r ⌝ }
 {
-    if !has_room(rows, cells, n_rows, n_cells) {
-        return refused(Why::NoRoom);
-    }
-    if !table_keeps(rows, &cells[..n_cells], n_rows) {
-        return refused(Why::BadTable);
-    }
-    Outcome::Done(n_cells)
-}
-
-// Whether the state and the inputs hold a value for each cell.
-fn has_values(state: &[i64], inputs: &[i64], n: usize) -> bool
-    ensures { λ r. ⌜ r ≡ leb n (length (now (state .entry))) && leb n (length (now (inputs .entry))) ⌝ }
-{
-    n <= state.len() && n <= inputs.len()
-}
-
-// Whether n rows and these cells have a total reading: their numbers and the cells' types tell.
-fn is_readable(cells: &[u32], n: usize) -> bool
-    ensures { λ r. ⌜ Readable (now (cells .entry)) n r ⌝ }
-{
-    if 64 < cells.len() {
-        return false;
-    }
-    if 3064 < n {
-        return false;
-    }
-    cells_known(cells)
-}
-
-// Gives each cell that holds no reading its next value: n rows are worked out in `vals`.
-fn run_table(rows: &[u32], cells: &[u32], n: usize, held: &mut [u32], vals: &mut [u32])
-    requires { ⌜ Runnable (now rows) (now cells) n (now held) (now vals) ⌝ }
-    ensures { λ _. ⌜ Runs (now (rows .entry)) (now (cells .entry)) n (now (held .entry)) (now (held .exit)) ⌝ }
-{
-    run_rows(rows, n, held, vals);
-    next_state(cells, &vals[..n], held);
-}
-
-// What the cells hold after a scan by the total reading of a table of n rows. Fewer rows have a shorter array for their values,
-// since it takes time to clear one.
-fn follow(rows: &[u32], cells: &[u32], n: usize, state: &[i64], inputs: &[i64], held: &mut [u32])
-    requires { ⌜ Scannable (now rows) (now cells) n (now inputs) (now state) × (length (now held) ≡ length (now cells)) ⌝ }
-    ensures { λ _. ⌜ Follows (now (rows .entry)) (now (cells .entry)) n (now (inputs .entry)) (now (state .entry)) (now (held .exit)) ⌝ }
-{
-    hold(cells, state, inputs, held);
-    if n <= 64 {
-        let mut few = [0u32; 64];
-        run_table(rows, cells, n, held, &mut few);
-        return;
-    }
-    if n <= 512 {
-        let mut some = [0u32; 512];
-        run_table(rows, cells, n, held, &mut some);
-        return;
-    }
-    let mut vals = [0u32; 3064];
-    run_table(rows, cells, n, held, &mut vals);
-}
-
-// A scan by the total reading: 12, or the state that follows, in one pass over the rows.
-fn scan_by(rows: &[u32], cells: &[u32], n: usize, state: &mut [i64], inputs: &[i64]) -> Outcome
-    requires { ⌜ Scannable (now rows) (now cells) n (now inputs) (now state) ⌝ }
-    ensures { λ r. ⌜ Scans (now (rows .entry)) (now (cells .entry)) n (now (inputs .entry)) (now (state .entry)) (now (state .exit)) r ⌝ }
-{
-    if !fit(cells, state, inputs) {
-        return refused(Why::BadValue);
-    }
-    let count = cells.len();
-    let mut held = [0u32; 64];
-    follow(rows, cells, n, state, inputs, &mut held[..count]);
-    lend(cells, &held[..count], state);
-    Outcome::Done(count)
+    lent::check_table(rows, cells, n_rows, n_cells)
 }
 
 // A scan from a lent table, which is tested by rule 11 before; the number of its cells.
@@ -187,16 +112,7 @@ pub fn scan_table(
 ) -> Outcome
     ensures { λ r. ⌜ ScanDid scanLent (lentWith (now (rows .entry)) (now (cells .entry)) «n_rows» «n_cells») (now (inputs .entry)) (now (state .entry)) (now (state .exit)) r ⌝ }
 {
-    if !has_room(rows, cells, n_rows, n_cells) {
-        return refused(Why::NoRoom);
-    }
-    if !has_values(state, inputs, n_cells) {
-        return refused(Why::NoRoom);
-    }
-    if !table_keeps(rows, &cells[..n_cells], n_rows) {
-        return refused(Why::BadTable);
-    }
-    scan_by(rows, &cells[..n_cells], n_rows, state, inputs)
+    lent::scan_table(rows, cells, n_rows, n_cells, state, inputs)
 }
 
 // The same from a table that was checked before, in one pass over its rows: its total reading is run.
@@ -210,14 +126,5 @@ pub fn scan_checked(
 ) -> Outcome
     ensures { λ r. ⌜ ScanDid scanChecked (lentWith (now (rows .entry)) (now (cells .entry)) «n_rows» «n_cells») (now (inputs .entry)) (now (state .entry)) (now (state .exit)) r ⌝ }
 {
-    if !has_room(rows, cells, n_rows, n_cells) {
-        return refused(Why::NoRoom);
-    }
-    if !has_values(state, inputs, n_cells) {
-        return refused(Why::NoRoom);
-    }
-    if !is_readable(&cells[..n_cells], n_rows) {
-        return refused(Why::BadTable);
-    }
-    scan_by(rows, &cells[..n_cells], n_rows, state, inputs)
+    lent::scan_checked(rows, cells, n_rows, n_cells, state, inputs)
 }

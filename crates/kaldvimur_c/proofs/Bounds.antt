@@ -24,7 +24,7 @@ use Rattle.demands.proofs.Places.{place-within}
 use Rattle.demands.proofs.PlainRuns.{run-steps}
 use Rattle.demands.proofs.Prints.{short-print, few-steps}
 use Rattle.demands.proofs.Theorem.{walk-means}
-use Rattle.kaldvimur.proofs.Checking.{Reads}
+use Rattle.lent.proofs.Checking.{Reads}
 use Rattle.kaldvimur.proofs.Tabling.{few-rows}
 
 -- ---- answers

@@ -3,8 +3,8 @@ use mathlib.Core.Path.{_≡_, refl, sym, ap, _∙_, subst}
 use Prim.Native.Nat.{ℕ}
 use Rattle.paper.specs.Refusals.{Answer, refused, given}
 use Rattle.demands.proofs.Placed.{Answers, stopped, gave}
-use Rattle.kaldvimur.specs.declared.Outcome.{Outcome}
-use Rattle.kaldvimur.specs.Outcomes.{outcome, left}
+use Rattle.lent.specs.declared.Outcome.{Outcome}
+use Rattle.lent.specs.Outcomes.{outcome, left}
 use Rattle.kaldvimur_c.specs.Codes.{answered, told, Near, Did}
 use Rattle.kaldvimur_c.proofs.Bounds.{Low}
 

@@ -3,9 +3,9 @@ use mathlib.Core.Path.{_≡_}
 use Prim.Native.Nat.{ℕ, _+_, _*_, _<_}
 use Rattle.paper.specs.declared.Why.{Why}
 use Rattle.paper.specs.Refusals.{Answer, refused, given, numberOf}
-use Rattle.kaldvimur.specs.declared.Outcome.{Outcome}
-use Rattle.kaldvimur.specs.declared.Outcome.the-variants.{Done, Refused}
-use Rattle.kaldvimur.specs.Outcomes.{left}
+use Rattle.lent.specs.declared.Outcome.{Outcome}
+use Rattle.lent.specs.declared.Outcome.the-variants.{Done, Refused}
+use Rattle.lent.specs.Outcomes.{left}
 
 -- a refusal: its number above, its place below
 abbrev pub codeOf : Why → ℕ → ℕ

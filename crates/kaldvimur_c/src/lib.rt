@@ -3,7 +3,7 @@
 ghost use mathlib.Core.Path.{_≡_};
 ghost use Prim.Native.Nat.{_<_};
 ghost use Rattle.paper.specs.Judge.{printInto, startInto, checkLent, scanLent, scanChecked};
-ghost use Rattle.kaldvimur.specs.Tables.{lentWith};
+ghost use Rattle.lent.specs.Tables.{lentWith};
 ghost use Rattle.kaldvimur_c.specs.Codes.{codeOf, answered, Near, told, Did};
 ghost use Rattle.kaldvimur_c.specs.Lending.{tooShort, acceptInto, scanInto, tableWith};
 use kaldvimur::Outcome;

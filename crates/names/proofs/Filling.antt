@@ -11,14 +11,15 @@ use lib.ListN.{length, getD, take, length-append, length-take}
 use lib.Seq.{take-all, take-append-le, take-take}
 use Rattle.paper.specs.declared.Kind.{Kind}
 use Rattle.paper.specs.declared.Kind.the-variants.{Input, Output, Other}
-use Rattle.paper.specs.Source.{Declared}
+use Rattle.paper.specs.Source.{Name, Declared}
 use Rattle.paper.specs.Reading.{declare}
 use Rattle.paper.specs.Names.{kindTag, sizeOf, ofKind, printed, placed}
 use Rattle.tree.specs.Nodes.{wordOf, childOf, written}
 use Rattle.tree.specs.Trees.{nameAt, placeAt, namesAt, declaredAt}
 use Rattle.tree.proofs.Frames.{names-nil, declared-nil}
-use Rattle.tree.proofs.Puts.{written-same, written-word0, written-word1, written-word2}
-use Rattle.variables.specs.Table.{nodeIn, sectionAt, typeAt, boundsIn, initialIn, entryAt, entries}
+use Rattle.tree.proofs.Puts.{written-same, written-word0, written-word1, written-word2, written-word3}
+use Rattle.variables.specs.Table.{nodeIn, sectionAt, typeAt, boundsIn, initialIn, keyOf, nameIn, entryAt, entries}
+use Rattle.variables.proofs.Keys.{named, name-kept}
 use Rattle.names.specs.declared.table.Filled.{Filled}
 use Rattle.names.specs.Walks.{Kept}
 use Rattle.names.specs.Declares.{cellsWith}
@@ -35,12 +36,12 @@ take-again (suc n) (x ∷ xs) ys = ap (λ zs. x ∷ zs) (take-again n xs ys)
 
 -- ---- entries
 
--- the entry at a place of the text, by the node of the declaration
-abbrev pub entryOf : List ℕ → List ℕ → ℕ → ℕ → Declared
-entryOf t p q j =
+-- the entry of a name at a place, by the node of the declaration
+abbrev pub entryOf : List ℕ → ℕ → Name → ℕ → Declared
+entryOf p q s j =
     record {
       place = q;
-      name = nameAt t q;
+      name = s;
       kind = sectionAt p j;
       ty = typeAt p j;
       bounds = boundsIn p j;
@@ -59,7 +60,9 @@ module _ (t p : List ℕ) where
   entries-kept (suc n) old new h =
       ap₂ (λ ds e. ds ++ e ∷ [])
       (entries-kept n old new (λ k l. h k (omega arith)))
-      (ap₂ (λ q w. entryOf t p q (nodeIn p w)) (h (4 * n + 0) (omega arith)) (h (4 * n + 1) (omega arith)))
+      (ap₂ (λ q w. entryOf p q (nameIn t new n) (nodeIn p w)) (h (4 * n + 0) (omega arith)) (h (4 * n + 1) (omega arith))
+      ∙ ap (λ s. entryOf p (wordOf old n 0) s (nodeIn p (wordOf old n 1)))
+      (name-kept t old new n (h (4 * n + 0) (omega arith)) (h (4 * n + 3) (omega arith))))
 
   entries-more : (tab : List ℕ) (n : ℕ) → entries t p tab (n + 1) ≡ entries t p tab n ++ entryAt t p tab n ∷ []
   unfolding entries
@@ -93,21 +96,28 @@ first-at n (d ∷ ds) (suc k) l = first-at (n + sizeOf (d .bounds)) ds k (omega 
 -- ---- one entry written
 
 module _ (t p old : List ℕ) (n place j cells : ℕ) (l : n < length old / 4) (fits : 4 * j + 4 ≤ length p) where
+  abbrev key : ℕ
+  key = keyOf (nameAt t place)
+
   abbrev wrote : List ℕ
-  wrote = written old n place j cells 0
+  wrote = written old n place j cells key
 
   before-kept : Kept (4 * n) old wrote
-  before-kept k s = written-same old n place j cells 0 (n - 1) (omega arith) k (omega arith)
+  before-kept k s = written-same old n place j cells key (n - 1) (omega arith) k (omega arith)
 
   written-before : (k : ℕ) → k ≤ n → entries t p wrote k ≡ entries t p old k
   written-before k s = entries-kept t p k old wrote (λ i b. before-kept i (omega arith))
 
-  written-entry : entryAt t p wrote n ≡ entryOf t p place j
-  written-entry =
-      ap₂ (λ q w. entryOf t p q (nodeIn p w)) (written-word0 old n place j cells 0 (omega arith)) (written-word1 old n place j cells 0 (omega arith))
-      ∙ ap (λ b. entryOf t p place (cond b j 0)) (le-leb (4 * j + 4) (length p) fits)
+  -- its key is that of its name
+  written-name : nameIn t wrote n ≡ nameAt t place
+  written-name = named t wrote n place (written-word0 old n place j cells key (omega arith)) (written-word3 old n place j cells key (omega arith))
 
-  written-entries : entries t p wrote (n + 1) ≡ entries t p old n ++ entryOf t p place j ∷ []
+  written-entry : entryAt t p wrote n ≡ entryOf p place (nameAt t place) j
+  written-entry =
+      ap₂ (λ q w. entryOf p q (nameIn t wrote n) (nodeIn p w)) (written-word0 old n place j cells key (omega arith)) (written-word1 old n place j cells key (omega arith))
+      ∙ ap₂ (λ s b. entryOf p place s (cond b j 0)) written-name (le-leb (4 * j + 4) (length p) fits)
+
+  written-entries : entries t p wrote (n + 1) ≡ entries t p old n ++ entryOf p place (nameAt t place) j ∷ []
   written-entries =
       entries-more t p wrote n ∙ ap₂ (λ ds e. ds ++ e ∷ []) (written-before n (omega arith)) written-entry
 
@@ -115,7 +125,7 @@ module _ (t p old : List ℕ) (n place j cells : ℕ) (l : n < length old / 4) (
       → rest ≡ (cells + size) % 65536 → rest ≡ cellsWith 0 (entries t p wrote (n + 1)) % 65536
   written-cells size rest z c r =
       let e : cellsWith 0 (entries t p wrote (n + 1)) ≡ cellsWith 0 (entries t p old n) + sizeOf (boundsIn p j) =
-      ap (cellsWith 0) written-entries ∙ cells-more t p 0 (entries t p old n) (entryOf t p place j) in
+      ap (cellsWith 0) written-entries ∙ cells-more t p 0 (entries t p old n) (entryOf p place (nameAt t place) j) in
       omega arith
 
   written-firsts : cells ≡ cellsWith 0 (entries t p old n) % 65536
@@ -126,54 +136,54 @@ module _ (t p old : List ℕ) (n place j cells : ℕ) (l : n < length old / 4) (
       go : (b : Bool) → eqb k n ≡ b → wordOf wrote k 2 ≡ cellsWith 0 (entries t p wrote k) % 65536
       go true e =
           rw (eqb-true k n e)
-          (written-word2 old n place j cells 0 (omega arith) ∙ c ∙ ap (λ ds. cellsWith 0 ds % 65536) (sym (written-before n (omega arith))))
+          (written-word2 old n place j cells key (omega arith) ∙ c ∙ ap (λ ds. cellsWith 0 ds % 65536) (sym (written-before n (omega arith))))
       go false e =
           let s : k < n = omega (arith, eqb-false k n e) in
           before-kept (4 * k + 2) (omega arith) ∙ h k s ∙ ap (λ ds. cellsWith 0 ds % 65536) (sym (written-before k (omega arith)))
 
 -- ---- steps
 
-module _ (p : List ℕ) where
-  pub fills-none : (tab : List ℕ) (f : Filled) (more : List ℕ → List Declared) → f .count ≤ length tab / 4 → ((t : List ℕ) → more t ≡ []) → Fills p tab tab f f more
+module _ (t p : List ℕ) where
+  pub fills-none : (tab : List ℕ) (f : Filled) (more : List Declared) → f .count ≤ length tab / 4 → more ≡ [] → Fills t p tab tab f f more
   fills-none tab f more l none =
       record {
-        listed = λ t.
+        listed =
             let n = entries-length t p tab (f .count) in
-            sym (ap (λ ds. take (length tab / 4) (entries t p tab (f .count) ++ ds)) (none t)
+            sym (ap (λ ds. take (length tab / 4) (entries t p tab (f .count) ++ ds)) none
             ∙ ap (take (length tab / 4)) (append-nil (entries t p tab (f .count)))
             ∙ take-all (length tab / 4) (entries t p tab (f .count)) (omega arith));
-        celled = λ t c. c;
+        celled = λ c. c;
       }
 
-  pub fills-then : (old mid new : List ℕ) (f m r : Filled) (es gs all : List ℕ → List Declared) → length mid ≡ length old
-      → ((t : List ℕ) → all t ≡ es t ++ gs t) → Fills p old mid f m es → Fills p mid new m r gs → Fills p old new f r all
+  pub fills-then : (old mid new : List ℕ) (f m r : Filled) (es gs all : List Declared) → length mid ≡ length old
+      → all ≡ es ++ gs → Fills t p old mid f m es → Fills t p mid new m r gs → Fills t p old new f r all
   fills-then old mid new f m r es gs all same is x y =
       record {
-        listed = λ t.
+        listed =
             let ds = entries t p old (f .count) in
-            y .listed t
-            ∙ ap₂ (λ n xs. take (n / 4) (xs ++ gs t)) same (x .listed t)
-            ∙ take-again (length old / 4) (ds ++ es t) (gs t)
-            ∙ ap (take (length old / 4)) (append-assoc ds (es t) (gs t) ∙ ap (λ xs. ds ++ xs) (sym (is t)));
-        celled = λ t c. y .celled t (x .celled t c);
+            y .listed
+            ∙ ap₂ (λ n xs. take (n / 4) (xs ++ gs)) same (x .listed)
+            ∙ take-again (length old / 4) (ds ++ es) gs
+            ∙ ap (take (length old / 4)) (append-assoc ds es gs ∙ ap (λ xs. ds ++ xs) (sym is));
+        celled = λ c. y .celled (x .celled c);
       }
 
-  pub fills-one : (old new : List ℕ) (place j size : ℕ) (f r : Filled) (es : List ℕ → List Declared) → f .count ≤ length old / 4
-      → 4 * j + 4 ≤ length p → size ≡ sizeOf (boundsIn p j) → ((t : List ℕ) → es t ≡ entryOf t p place j ∷ [])
-      → Adds old new place j size f r → Fills p old new f r es
+  pub fills-one : (old new : List ℕ) (place j size : ℕ) (f r : Filled) (es : List Declared) → f .count ≤ length old / 4
+      → 4 * j + 4 ≤ length p → size ≡ sizeOf (boundsIn p j) → es ≡ entryOf p place (nameAt t place) j ∷ []
+      → Adds t old new place j size f r → Fills t p old new f r es
   fills-one old new place j size f r es l fits z is a = go (ltb (f .count) (length old / 4)) refl
     where
-      go : (b : Bool) → ltb (f .count) (length old / 4) ≡ b → Fills p old new f r es
+      go : (b : Bool) → ltb (f .count) (length old / 4) ≡ b → Fills t p old new f r es
       go true e =
           let room : f .count < length old / 4 = ltb-true _ _ e in
           record {
-            listed = λ t.
+            listed =
                 let n = entries-length t p old (f .count) in
                 ap₂ (entries t p) (a .more room) (a .counted room)
                 ∙ written-entries t p old (f .count) place j (f .cells) room fits
-                ∙ sym (ap (λ ds. take (length old / 4) (entries t p old (f .count) ++ ds)) (is t)
-                ∙ take-all (length old / 4) (entries t p old (f .count) ++ entryOf t p place j ∷ []) (simp length-append (omega arith)));
-            celled = λ t c.
+                ∙ sym (ap (λ ds. take (length old / 4) (entries t p old (f .count) ++ ds)) is
+                ∙ take-all (length old / 4) (entries t p old (f .count) ++ entryOf p place (nameAt t place) j ∷ []) (simp length-append (omega arith)));
+            celled = λ c.
                 rw (a .more room)
                 record {
                   firsts = rw (a .counted room) (written-firsts t p old (f .count) place j (f .cells) room fits (c .next) (c .firsts));
@@ -185,93 +195,93 @@ module _ (p : List ℕ) where
           let h = a .full full in
           rw (h .0, h .1)
           record {
-            listed = λ t.
+            listed =
                 let n = entries-length t p old (f .count) in
-                sym (take-append-le (length old / 4) (entries t p old (f .count)) (es t) (omega arith)
+                sym (take-append-le (length old / 4) (entries t p old (f .count)) es (omega arith)
                 ∙ take-all (length old / 4) (entries t p old (f .count)) (omega arith));
-            celled = λ t c. c;
+            celled = λ c. c;
           }
 
-  pub fills-same : (old new : List ℕ) (f r : Filled) (es gs : List ℕ → List Declared) → ((t : List ℕ) → gs t ≡ es t) → Fills p old new f r es → Fills p old new f r gs
+  pub fills-same : (old new : List ℕ) (f r : Filled) (es gs : List Declared) → gs ≡ es → Fills t p old new f r es → Fills t p old new f r gs
   fills-same old new f r es gs is x =
       record {
-        listed = λ t. x .listed t ∙ ap (λ ds. take (length old / 4) (entries t p old (f .count) ++ ds)) (sym (is t));
+        listed = x .listed ∙ ap (λ ds. take (length old / 4) (entries t p old (f .count) ++ ds)) (sym is);
         celled = x .celled;
       }
 
-  pub fills-most : (old new : List ℕ) (f r : Filled) (es : List ℕ → List Declared) → Fills p old new f r es → r .count ≤ length old / 4
+  pub fills-most : (old new : List ℕ) (f r : Filled) (es : List Declared) → Fills t p old new f r es → r .count ≤ length old / 4
   fills-most old new f r es x =
-      let n = ap length (x .listed []) ∙ length-take (length old / 4) (entries [] p old (f .count) ++ es []) in
-      omega (arith, entries-length [] p new (r .count), n)
+      let n = ap length (x .listed) ∙ length-take (length old / 4) (entries t p old (f .count) ++ es) in
+      omega (arith, entries-length t p new (r .count), n)
 
   -- ---- nodes
 
   -- the names before and one more, of the declaration j
   pub fills-names : (old mid new : List ℕ) (i a q j size : ℕ) (f m r : Filled) → 0 < i → a ≡ childOf p i 1 → q ≡ placeAt p i
       → 4 * j + 4 ≤ length p → size ≡ sizeOf (boundsIn p j) → length mid ≡ length old → m .count ≤ length old / 4
-      → FillsNames p old mid a j f m → Adds mid new q j size m r → FillsNames p old new i j f r
+      → FillsNames t p old mid a j f m → Adds t mid new q j size m r → FillsNames t p old new i j f r
   fills-names old mid new i a q j size f m r some e w fits z same l x y =
       let k = sectionAt p j in
       let ty = typeAt p j in
       let b = boundsIn p j in
       let v = initialIn p j in
       fills-then old mid new f m r _ _ _ same
-      (λ t. ap (declare k ty b v) (names-are t p i a q some e w) ∙ declare-append k ty b v (namesAt t p a) (record { place = q; name = nameAt t q } ∷ []))
+      (ap (declare k ty b v) (names-are t p i a q some e w) ∙ declare-append k ty b v (namesAt t p a) (record { place = q; name = nameAt t q } ∷ []))
       x
-      (fills-one mid new q j size m r _ (rw same l) fits z (λ t. declare-one k ty b v (record { place = q; name = nameAt t q })) y)
+      (fills-one mid new q j size m r _ (rw same l) fits z (declare-one k ty b v (record { place = q; name = nameAt t q })) y)
 
-  pub fills-no-names : (tab : List ℕ) (j : ℕ) (f : Filled) → f .count ≤ length tab / 4 → FillsNames p tab tab 0 j f f
+  pub fills-no-names : (tab : List ℕ) (j : ℕ) (f : Filled) → f .count ≤ length tab / 4 → FillsNames t p tab tab 0 j f f
   fills-no-names tab j f l =
       fills-none tab f _ l
-      (λ t. ap (declare (sectionAt p j) (typeAt p j) (boundsIn p j) (initialIn p j)) (names-nil t p) ∙ declare-none (sectionAt p j) (typeAt p j) (boundsIn p j) (initialIn p j))
+      (ap (declare (sectionAt p j) (typeAt p j) (boundsIn p j) (initialIn p j)) (names-nil t p) ∙ declare-none (sectionAt p j) (typeAt p j) (boundsIn p j) (initialIn p j))
 
-  pub fills-no-kind : (tab : List ℕ) (n : ℕ) (f : Filled) → f .count ≤ length tab / 4 → FillsKind p tab tab 0 n f f
+  pub fills-no-kind : (tab : List ℕ) (n : ℕ) (f : Filled) → f .count ≤ length tab / 4 → FillsKind t p tab tab 0 n f f
   unfolding ofKind
-  fills-no-kind tab n f l k e = fills-none tab f _ l (λ t. ap (ofKind k) (declared-nil t p))
+  fills-no-kind tab n f l k e = fills-none tab f _ l (ap (ofKind k) (declared-nil t p))
 
   -- the declarations before and one more, of the kind with the number n
   module _ (old mid : List ℕ) (d a j i n : ℕ) (f m : Filled) (some : 0 < d) (e : a ≡ childOf p d 1) (g : j ≡ childOf p d 2)
       (h : i ≡ childOf p j 1) where
-    abbrev own : List ℕ → List Declared
-    own t = declare (sectionAt p j) (typeAt p j) (boundsIn p j) (initialIn p j) (namesAt t p i)
+    abbrev own : List Declared
+    own = declare (sectionAt p j) (typeAt p j) (boundsIn p j) (initialIn p j) (namesAt t p i)
 
-    kinds-are : (k : Kind) (t : List ℕ) → ofKind k (declaredAt t p d) ≡ ofKind k (declaredAt t p a) ++ ofKind k (own t)
-    kinds-are k t = ap (ofKind k) (declared-are t p d a j i some e g h) ∙ kind-append k (declaredAt t p a) (own t)
+    kinds-are : (k : Kind) → ofKind k (declaredAt t p d) ≡ ofKind k (declaredAt t p a) ++ ofKind k own
+    kinds-are k = ap (ofKind k) (declared-are t p d a j i some e g h) ∙ kind-append k (declaredAt t p a) own
 
-    pub fills-kind : (new : List ℕ) (r : Filled) → length mid ≡ length old → kindTag (sectionAt p j) ≡ n → FillsKind p old mid a n f m → FillsNames p mid new i j m r
-        → FillsKind p old new d n f r
+    pub fills-kind : (new : List ℕ) (r : Filled) → length mid ≡ length old → kindTag (sectionAt p j) ≡ n → FillsKind t p old mid a n f m → FillsNames t p mid new i j m r
+        → FillsKind t p old new d n f r
     fills-kind new r same s x y k q =
         fills-then old mid new f m r _ _ _ same
-        (λ t. kinds-are k t ∙ ap (λ ds. ofKind k (declaredAt t p a) ++ ds)
+        (kinds-are k ∙ ap (λ ds. ofKind k (declaredAt t p a) ++ ds)
         (kind-same k (sectionAt p j) (typeAt p j) (boundsIn p j) (initialIn p j) (namesAt t p i) (eq-eqb _ _ (sym q ∙ sym s))))
         (x k q) y
 
-    pub fills-other : (kindTag (sectionAt p j) ≡ n → ⊥) → FillsKind p old mid a n f m → FillsKind p old mid d n f m
+    pub fills-other : (kindTag (sectionAt p j) ≡ n → ⊥) → FillsKind t p old mid a n f m → FillsKind t p old mid d n f m
     fills-other s x k q =
         fills-same old mid f m _ _
-        (λ t. kinds-are k t ∙ ap (λ ds. ofKind k (declaredAt t p a) ++ ds)
+        (kinds-are k ∙ ap (λ ds. ofKind k (declaredAt t p a) ++ ds)
         (kind-other k (sectionAt p j) (typeAt p j) (boundsIn p j) (initialIn p j) (namesAt t p i) (ne-eqb _ _ (λ z. s (sym z ∙ sym q))))
         ∙ append-nil (ofKind k (declaredAt t p a)))
         (x k q)
 
   -- all three kinds, from an empty table
   pub fills-all : (old one two new : List ℕ) (d : ℕ) (a b r : Filled) → length one ≡ length old → length two ≡ length one
-      → FillsKind p old one d 0 (record { count = 0; cells = 0 }) a → FillsKind p one two d 1 a b → FillsKind p two new d 2 b r → FillsAll p old new d r
+      → FillsKind t p old one d 0 (record { count = 0; cells = 0 }) a → FillsKind t p one two d 1 a b → FillsKind t p two new d 2 b r → FillsAll t p old new d r
   unfolding printed entries cellsWith
   fills-all old one two new d a b r same like x y z =
       let none : Filled = record { count = 0; cells = 0 } in
-      let two-kinds = fills-then old one two none a b _ _ (λ t. ofKind Input (declaredAt t p d) ++ ofKind Output (declaredAt t p d)) same (λ t. refl) (x Input refl) (y Output refl) in
-      let all = fills-then old two new none b r _ _ (λ t. printed (declaredAt t p d)) (like ∙ same) (λ t. refl) two-kinds (z Other refl) in
-      let start : (t : List ℕ) → Celled t p old none = λ t. record { firsts = λ k l. absurd (omega arith); next = refl } in
+      let two-kinds = fills-then old one two none a b _ _ (ofKind Input (declaredAt t p d) ++ ofKind Output (declaredAt t p d)) same refl (x Input refl) (y Output refl) in
+      let all = fills-then old two new none b r _ _ (printed (declaredAt t p d)) (like ∙ same) refl two-kinds (z Other refl) in
+      let start : Celled t p old none = record { firsts = λ k l. absurd (omega arith); next = refl } in
       record {
         listed = all .listed;
-        firsts = λ t k l.
+        firsts = λ k l.
             let ds = printed (declaredAt t p d) in
             let room = length old / 4 in
-            let n = sym (entries-length t p new (r .count)) ∙ ap length (all .listed t) ∙ length-take room ds in
-            all .celled t (start t) .firsts k l
+            let n = sym (entries-length t p new (r .count)) ∙ ap length (all .listed) ∙ length-take room ds in
+            all .celled start .firsts k l
             ∙ ap (λ xs. cellsWith 0 xs % 65536)
-            (sym (entries-take t p new (r .count) k (omega arith)) ∙ ap (take k) (all .listed t) ∙ take-take k room ds (omega (arith, n)))
+            (sym (entries-take t p new (r .count) k (omega arith)) ∙ ap (take k) (all .listed) ∙ take-take k room ds (omega (arith, n)))
             ∙ ap (λ c. c % 65536) (sym (first-at 0 ds k (omega (arith, n))));
-        cells = λ t. all .celled t (start t) .next;
+        cells = all .celled start .next;
       }

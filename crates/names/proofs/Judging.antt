@@ -48,7 +48,7 @@ abbrev none : Seen
 none = record { count = 0; cells = 0; best = 0 }
 
 module _ (t p old new scratch places : List ℕ) (root d b first : ℕ) (f : Filled) (s : Seen) (e : d ≡ childOf p root 1) (g : b ≡ childOf p root 2)
-    (most : f .count ≤ length old / 4) (same : length new ≡ length old) (fills : FillsAll p old new d f)
+    (most : f .count ≤ length old / 4) (same : length new ≡ length old) (fills : FillsAll t p old new d f)
     (declares : DeclaresAll t p scratch places d none s)
     (body : first ≡ after (s .best) (statementsAt t p (take (4 * f .count) new) places 0 b)) where
   abbrev ds : List Declared
@@ -56,7 +56,7 @@ module _ (t p old new scratch places : List ℕ) (root d b first : ℕ) (f : Fil
 
   module _ (seen : length ds ≤ length scratch) (room : length ds ≤ length old / 4) where
     all-listed : entries t p new (f .count) ≡ printed ds
-    all-listed = fills .listed t ∙ take-all (length old / 4) (printed ds) (omega (arith, printed-length ds))
+    all-listed = fills .listed ∙ take-all (length old / 4) (printed ds) (omega (arith, printed-length ds))
 
     in-part : variablesIn t p (take (4 * f .count) new) ≡ variablesOf ds
     unfolding variablesIn variablesOf
@@ -68,7 +68,7 @@ module _ (t p old new scratch places : List ℕ) (root d b first : ℕ) (f : Fil
 
     celled : f .cells ≡ length (cellsOf (variablesOf ds)) % 65536
     unfolding variablesOf
-    celled = fills .cells t ∙ ap (λ n. n % 65536) (ap (cellsWith 0) all-listed ∙ omega (arith, cells-all 0 (printed ds)))
+    celled = fills .cells ∙ ap (λ n. n % 65536) (ap (cellsWith 0) all-listed ∙ omega (arith, cells-all 0 (printed ds)))
 
     judges : Judges t p new (programAt t p root) (record { first = first; count = f .count; cells = f .cells })
     unfolding programAt variablesOf nameFaults after namesTo
@@ -82,7 +82,7 @@ module _ (t p old new scratch places : List ℕ) (root d b first : ℕ) (f : Fil
               refl;
           variables = ap (placed 0) all-listed;
           part = in-part;
-          firsts = fills .firsts t;
+          firsts = fills .firsts;
           cells = celled;
         }
 

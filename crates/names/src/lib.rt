@@ -28,7 +28,7 @@ pub fn first_bad_name(
     ensures { λ r. ⌜ Judged (now (text .entry)) (now (pool .entry)) (now (table .entry)) (now (table .exit)) (length (now (scratch .entry))) root r ⌝ }
 {
     let d = child(pool, root, 1);
-    let filled = table::fill(pool, d, table);
+    let filled = table::fill(text, pool, d, table);
     let count = filled.count;
     let none = Seen {
         count: 0,

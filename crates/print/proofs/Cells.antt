@@ -1,7 +1,7 @@
 -- A cell by the first variable that has it.
 use mathlib.Core.Path.{_≡_, refl, sym, ap, _∙_}
 use mathlib.Core.Bool.{Bool, true, false, cond, _&&_}
-use mathlib.Core.List.{List, [], _∷_, _++_, map}
+use mathlib.Core.List.{List, [], _∷_, _++_}
 use Prim.Native.Nat.{ℕ, zero, suc, _+_, _-_, _/_, _≤_, _<_}
 use native.Mathlib.Numerals.{add-one}
 use native.Mathlib.Omega.{arith}
@@ -9,14 +9,12 @@ use borrow.Author.Tests.{eqb-true, eqb-false, ltb-true, ltb-false, lt-ltb, le-lt
 use lib.Dec.{eqb, ltb, leb}
 use lib.ListN.{length, getD, take, drop, length-append, List·getD-append}
 use lib.Seq.{drop-cons, drop-length, getD-at}
-use Rattle.paper.specs.Words.{capital}
 use Rattle.paper.specs.Source.{Bounds, single, array}
 use Rattle.paper.specs.Names.{Variable, sizeOf, isArray}
 use Rattle.paper.specs.Printing.{put, natural, cell, cellOfVariable}
-use Rattle.words.specs.Denoted.{spelledAt}
 use Rattle.tree.specs.Nodes.{wordOf, kindOf, childOf}
 use Rattle.tree.specs.Trees.{wide, placeAt}
-use Rattle.variables.specs.Table.{boundsIn, nodeIn, entryAt, listedTo, listedIn}
+use Rattle.variables.specs.Table.{boundsIn, nodeIn, nameIn, listedTo, listedIn}
 use Rattle.print.specs.Parts.{variableAt, holds, subscript}
 
 -- ---- the variables one by one
@@ -114,7 +112,6 @@ of-variable v c k = go (v .declared .bounds)
     go single = refl
     go (array p lo q hi) = refl
 
-pub variable-cell : (t p tab : List ℕ) (v c w j f : ℕ) (name k : List ℕ) → name ≡ spelledAt t w → w ≡ wordOf tab v 0
-    → j ≡ nodeIn p (wordOf tab v 1) → f ≡ wordOf tab v 2
-    → cellOfVariable (variableAt t p tab v) c k ≡ map capital name ++ subscript (boundsIn p j) (c - f) k
-variable-cell t p tab v c w j f name k a b d e = rw (a, b, d, e) (of-variable (variableAt t p tab v) c k)
+pub variable-cell : (t p tab : List ℕ) (v c j f : ℕ) (k : List ℕ) → j ≡ nodeIn p (wordOf tab v 1) → f ≡ wordOf tab v 2
+    → cellOfVariable (variableAt t p tab v) c k ≡ nameIn t tab v ++ subscript (boundsIn p j) (c - f) k
+variable-cell t p tab v c j f k d e = rw (d, e) (of-variable (variableAt t p tab v) c k)

@@ -2,5 +2,6 @@ pub mod Laws
 mod Numbers
 mod Sections
 mod Cells
+mod Indexes
 mod Bodies
 mod Programs

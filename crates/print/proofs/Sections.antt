@@ -1,7 +1,7 @@
 -- Declarations and sections.
 use mathlib.Core.Path.{_≡_, refl, sym, ap, _∙_}
 use mathlib.Core.Bool.{Bool, true, false, cond}
-use mathlib.Core.List.{List, [], _∷_, _++_, map}
+use mathlib.Core.List.{List, [], _∷_, _++_}
 use Prim.Native.Nat.{ℕ, zero, suc, _+_, _<_}
 use native.Mathlib.Numerals.{add-one}
 use native.Mathlib.Omega.{arith}
@@ -13,15 +13,14 @@ use Rattle.paper.specs.declared.Ty.{Ty}
 use Rattle.paper.specs.declared.Ty.the-variants.{Bool as BOOL, Int as INT, Uint as UINT, Dint as DINT, Udint as UDINT}
 use Rattle.paper.specs.declared.Kind.{Kind}
 use Rattle.paper.specs.declared.Kind.the-variants.{Input, Output, Other}
-use Rattle.paper.specs.Words.{bytes, capital, typeName}
+use Rattle.paper.specs.Words.{bytes, typeName}
 use Rattle.paper.specs.Types.{sameTy}
 use Rattle.paper.specs.Source.{Bounds, single, array, nothing, Declared}
 use Rattle.paper.specs.Names.{kindTag, sameKind, ofKind, isArray}
 use Rattle.paper.specs.Printing.{put, line, natural, whole, initialOf, declarationOf, declarations, section, sections}
-use Rattle.words.specs.Denoted.{spelledAt}
 use Rattle.tree.specs.Nodes.{wordOf, kindOf, childOf}
 use Rattle.tree.specs.Trees.{wide, wholeAt, placeAt, initialAt}
-use Rattle.variables.specs.Table.{typeAt, sectionAt, boundsIn, nodeIn, entryAt, entries}
+use Rattle.variables.specs.Table.{typeAt, sectionAt, boundsIn, nodeIn, nameIn, entryAt, entries}
 use Rattle.print.specs.Parts.{sectionOf, ofSection, isOf, declaredIn, typing, arrayOf, headed}
 
 -- ---- values
@@ -194,14 +193,13 @@ module _ (t p tab : List ℕ) (s : ℕ) where
       ∙ ap (λ m. length (ofSection t p tab s n) + m) (count-of (sectionOf s) (entryAt t p tab n) _ refl)
 
   -- the variable n, from what its words say
-  pub variable-printed : (n : ℕ) (name : List ℕ) (w j : ℕ) → isOf p tab s n ≡ true → name ≡ spelledAt t w → w ≡ wordOf tab n 0
-      → j ≡ nodeIn p (wordOf tab n 1) → (k : List ℕ)
-      → declarations (ofKind (sectionOf s) (entryAt t p tab n ∷ [])) k ≡ map capital name ++ put " : " (typing p j k)
-  variable-printed n name w j e a b d k =
+  pub variable-printed : (n j : ℕ) → isOf p tab s n ≡ true → j ≡ nodeIn p (wordOf tab n 1) → (k : List ℕ)
+      → declarations (ofKind (sectionOf s) (entryAt t p tab n ∷ [])) k ≡ nameIn t tab n ++ put " : " (typing p j k)
+  variable-printed n j e d k =
       let v = entryAt t p tab n in
       ap (λ l. declarations l k) (one-of (sectionOf s) v e)
       ∙ one-declaration v k
-      ∙ rw (a, b, d) (ap (λ l. v .name ++ put " : " l) (typed-alike (v .kind) (v .bounds) v (declaredIn p (nodeIn p (wordOf tab n 1))) k refl refl))
+      ∙ rw d (ap (λ l. v .name ++ put " : " l) (typed-alike (v .kind) (v .bounds) v (declaredIn p (nodeIn p (wordOf tab n 1))) k refl refl))
 
   pub variable-passed : (n : ℕ) → isOf p tab s n ≡ false → (k : List ℕ) → declarations (ofKind (sectionOf s) (entryAt t p tab n ∷ [])) k ≡ k
   variable-passed n e k = ap (λ l. declarations l k) (none-of (sectionOf s) (entryAt t p tab n) e) ∙ no-declarations k

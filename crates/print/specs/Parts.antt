@@ -80,6 +80,15 @@ pub record Holds (p tab : List ℕ) (c r : ℕ) : Type 0 where
 abbrev pub holds : List ℕ → List ℕ → ℕ → ℕ → Bool
 holds p tab c n = leb (wordOf tab n 2) c && ltb c (wordOf tab n 2 + sizeOf (boundsIn p (nodeIn p (wordOf tab n 1))))
 
+-- an index: for each of the first 64 cells the variable that `Holds` speaks of
+abbrev pub Indexed : List ℕ → List ℕ → List ℕ → Type 0
+Indexed p tab is = (c : ℕ) → c < 64 → Holds p tab c (getD is c 0)
+
+-- an index with the variable v entered over what was there
+pub record Entered (p tab : List ℕ) (v : ℕ) (old new : List ℕ) : Type 0 where
+  pub size : length new ≡ 64
+  pub entries : (c : ℕ) → c < 64 → getD new c 0 ≡ cond (holds p tab c v) v (getD old c 0)
+
 -- the subscript of an array's element, which is the cell o of the array
 abbrev pub subscript : Bounds → ℕ → List ℕ → List ℕ
 subscript single o k = k

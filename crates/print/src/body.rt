@@ -8,13 +8,14 @@ ghost use Rattle.tree.specs.Nodes.{wordOf, kindOf, childOf};
 ghost use Rattle.plain.specs.Flat.{exprAt, listAt};
 ghost use Rattle.variables.specs.Table.{boundsIn, listedIn};
 ghost use Rattle.print.specs.Printed.{Printed};
-ghost use Rattle.print.specs.Parts.{Holds, holds, subscript, operatorOf, converting, opening, closing, isDone, ifEmpty, ifElse, whole};
-use crate::bytes::capitals;
+ghost use Rattle.print.specs.Parts.{Indexed, subscript, operatorOf, converting, opening, closing, isDone, ifEmpty, ifElse, whole};
 use crate::bytes::natural;
 use crate::bytes::put;
 use crate::bytes::truth;
 use crate::bytes::type_name;
+use crate::declared::named;
 use crate::declared::number;
+use crate::index::variable_of;
 use tree::child;
 use tree::kind;
 use tree::wide_at;
@@ -22,35 +23,7 @@ use tree::word;
 use variables::bounds_of;
 use variables::declaration_of;
 use variables::is_array;
-use variables::size_of;
 use variables::type_at;
-use words::name_of;
-
-// Whether the variable `v` has the cell `c`.
-fn has(pool: &[u16], table: &[u16], v: usize, c: usize) -> bool
-    requires { ⌜ (4 ≤ length (now pool)) × (v < length (now table) / 4) ⌝ }
-    ensures { λ r. ⌜ r ≡ holds (now (pool .entry)) (now (table .entry)) c v ⌝ }
-{
-    let first = word(table, v, 2) as usize;
-    let n = size_of(pool, declaration_of(pool, table, v));
-    first <= c && c - first < n
-}
-
-// The first variable that has the cell `c`, or how many variables there are.
-fn variable_of(pool: &[u16], table: &[u16], c: usize) -> usize
-    requires { ⌜ 4 ≤ length (now pool) ⌝ }
-    ensures { λ r. ⌜ Holds (now (pool .entry)) (now (table .entry)) c r ⌝ }
-{
-    let n = table.len() / 4;
-    let mut v = 0;
-    while v < n {
-        if has(pool, table, v, c) {
-            return v;
-        }
-        v += 1;
-    }
-    n
-}
 
 // The subscript of an array's element, the cell `o` of the array; of another variable nothing.
 fn subscripted(pool: &[u16], j: usize, o: usize, out: &mut [u8], at: usize) -> usize
@@ -67,16 +40,24 @@ fn subscripted(pool: &[u16], j: usize, o: usize, out: &mut [u8], at: usize) -> u
 }
 
 // A cell by its variable's name; of an array, with the subscript.
-fn cell(text: &[u8], pool: &[u16], table: &[u16], c: usize, out: &mut [u8], at: usize) -> usize
-    requires { ⌜ (4 ≤ length (now pool)) × (c < 65536) ⌝ }
+fn cell(
+    text: &[u8],
+    pool: &[u16],
+    table: &[u16],
+    index: &[usize; 64],
+    c: usize,
+    out: &mut [u8],
+    at: usize,
+) -> usize
+    requires { ⌜ (4 ≤ length (now pool)) × (c < 65536) × (Indexed (now pool) (now table) (now index)) ⌝ }
     ensures { λ r. ⌜ Printed (now (out .entry)) (now (out .exit)) at (P.cell (listedIn (now (text .entry)) (now (pool .entry)) (now (table .entry))) c) r ⌝ }
 {
-    let v = variable_of(pool, table, c);
+    let v = variable_of(pool, table, index, c);
     if table.len() / 4 <= v {
         return at;
     }
     let first = word(table, v, 2) as usize;
-    let a = capitals(out, at, name_of(text, word(table, v, 0) as usize));
+    let a = named(text, table, v, out, at);
     subscripted(pool, declaration_of(pool, table, v), c - first, out, a)
 }
 
@@ -146,13 +127,14 @@ fn leaf(
     text: &[u8],
     pool: &[u16],
     table: &[u16],
+    index: &[usize; 64],
     plain: &[u16],
     i: usize,
     k: u16,
     out: &mut [u8],
     at: usize,
 ) -> usize
-    requires { ⌜ (4 ≤ length (now pool)) × (4 * i + 4 ≤ length (now plain)) × (k ≡ kindOf (now plain) i) × (k < 7) ⌝ }
+    requires { ⌜ (4 ≤ length (now pool)) × (4 * i + 4 ≤ length (now plain)) × (k ≡ kindOf (now plain) i) × (k < 7) × (Indexed (now pool) (now table) (now index)) ⌝ }
     ensures { λ r. ⌜ Printed (now (out .entry)) (now (out .exit)) at (P.expression (listedIn (now (text .entry)) (now (pool .entry)) (now (table .entry))) (exprAt (now (plain .entry)) i)) r ⌝ }
 {
     if k == 1 {
@@ -162,7 +144,15 @@ fn leaf(
         return number(plain, i, out, at);
     }
     if k == 5 {
-        return cell(text, pool, table, word(plain, i, 1) as usize, out, at);
+        return cell(
+            text,
+            pool,
+            table,
+            index,
+            word(plain, i, 1) as usize,
+            out,
+            at,
+        );
     }
     truth(out, at, k == 4)
 }
@@ -171,17 +161,18 @@ fn expression(
     text: &[u8],
     pool: &[u16],
     table: &[u16],
+    index: &[usize; 64],
     plain: &[u16],
     i: usize,
     out: &mut [u8],
     at: usize,
 ) -> usize
-    requires { ⌜ (4 ≤ length (now pool)) × (4 * i + 4 ≤ length (now plain)) ⌝ }
+    requires { ⌜ (4 ≤ length (now pool)) × (4 * i + 4 ≤ length (now plain)) × (Indexed (now pool) (now table) (now index)) ⌝ }
     ensures { λ r. ⌜ Printed (now (out .entry)) (now (out .exit)) at (P.expression (listedIn (now (text .entry)) (now (pool .entry)) (now (table .entry))) (exprAt (now (plain .entry)) i)) r ⌝ }
 {
     let k = kind(plain, i);
     if k < 7 {
-        return leaf(text, pool, table, plain, i, k, out, at);
+        return leaf(text, pool, table, index, plain, i, k, out, at);
     }
     if k == 9 {
         return truth(out, at, false);
@@ -190,12 +181,12 @@ fn expression(
         return truth(out, at, false);
     }
     let a = opened(plain, i, k, out, at);
-    let b = expression(text, pool, table, plain, child(plain, i, 1), out, a);
+    let b = expression(text, pool, table, index, plain, child(plain, i, 1), out, a);
     if k < 11 {
         return closed(k, out, b);
     }
     let c = sign(k, out, b);
-    let d = expression(text, pool, table, plain, child(plain, i, 2), out, c);
+    let d = expression(text, pool, table, index, plain, child(plain, i, 2), out, c);
     put(out, d, b")")
 }
 
@@ -255,16 +246,17 @@ fn condition(
     text: &[u8],
     pool: &[u16],
     table: &[u16],
+    index: &[usize; 64],
     plain: &[u16],
     i: usize,
     out: &mut [u8],
     at: usize,
 ) -> usize
-    requires { ⌜ (4 ≤ length (now pool)) × (4 * i + 4 ≤ length (now plain)) ⌝ }
+    requires { ⌜ (4 ≤ length (now pool)) × (4 * i + 4 ≤ length (now plain)) × (Indexed (now pool) (now table) (now index)) ⌝ }
     ensures { λ r. ⌜ Printed (now (out .entry)) (now (out .exit)) at (λ k. P.put "IF " (P.expression (listedIn (now (text .entry)) (now (pool .entry)) (now (table .entry))) (exprAt (now (plain .entry)) (childOf (now (plain .entry)) i 1)) (P.line " THEN" k))) r ⌝ }
 {
     let a = put(out, at, b"IF ");
-    let b = expression(text, pool, table, plain, child(plain, i, 1), out, a);
+    let b = expression(text, pool, table, index, plain, child(plain, i, 1), out, a);
     put(out, b, b" THEN\n")
 }
 
@@ -272,17 +264,26 @@ fn assignment(
     text: &[u8],
     pool: &[u16],
     table: &[u16],
+    index: &[usize; 64],
     plain: &[u16],
     i: usize,
     out: &mut [u8],
     at: usize,
 ) -> usize
-    requires { ⌜ (4 ≤ length (now pool)) × (4 * i + 4 ≤ length (now plain)) ⌝ }
+    requires { ⌜ (4 ≤ length (now pool)) × (4 * i + 4 ≤ length (now plain)) × (Indexed (now pool) (now table) (now index)) ⌝ }
     ensures { λ r. ⌜ Printed (now (out .entry)) (now (out .exit)) at (λ k. P.cell (listedIn (now (text .entry)) (now (pool .entry)) (now (table .entry))) (wordOf (now (plain .entry)) i 1) (P.put " := " (P.expression (listedIn (now (text .entry)) (now (pool .entry)) (now (table .entry))) (exprAt (now (plain .entry)) (childOf (now (plain .entry)) i 2)) (P.line ";" k)))) r ⌝ }
 {
-    let a = cell(text, pool, table, word(plain, i, 1) as usize, out, at);
+    let a = cell(
+        text,
+        pool,
+        table,
+        index,
+        word(plain, i, 1) as usize,
+        out,
+        at,
+    );
     let b = put(out, a, b" := ");
-    let c = expression(text, pool, table, plain, child(plain, i, 2), out, b);
+    let c = expression(text, pool, table, index, plain, child(plain, i, 2), out, b);
     put(out, c, b";\n")
 }
 
@@ -291,12 +292,13 @@ fn statements(
     text: &[u8],
     pool: &[u16],
     table: &[u16],
+    index: &[usize; 64],
     plain: &[u16],
     i: usize,
     out: &mut [u8],
     at: usize,
 ) -> usize
-    requires { ⌜ (4 ≤ length (now pool)) × (4 * i + 4 ≤ length (now plain)) ⌝ }
+    requires { ⌜ (4 ≤ length (now pool)) × (4 * i + 4 ≤ length (now plain)) × (Indexed (now pool) (now table) (now index)) ⌝ }
     ensures { λ r. ⌜ Printed (now (out .entry)) (now (out .exit)) at (P.statements (listedIn (now (text .entry)) (now (pool .entry)) (now (table .entry))) (listAt (now (plain .entry)) i)) r ⌝ }
 {
     if i == 0 {
@@ -304,19 +306,19 @@ fn statements(
     }
     let k = word(plain, i, 0);
     if k < 41 {
-        return assignment(text, pool, table, plain, i, out, at);
+        return assignment(text, pool, table, index, plain, i, out, at);
     }
     if k == 44 {
-        let a = statements(text, pool, table, plain, child(plain, i, 1), out, at);
-        return statements(text, pool, table, plain, child(plain, i, 2), out, a);
+        let a = statements(text, pool, table, index, plain, child(plain, i, 1), out, at);
+        return statements(text, pool, table, index, plain, child(plain, i, 2), out, a);
     }
     if 41 < k {
         return at;
     }
-    let a = condition(text, pool, table, plain, i, out, at);
-    let b = statements(text, pool, table, plain, child(plain, i, 2), out, a);
+    let a = condition(text, pool, table, index, plain, i, out, at);
+    let b = statements(text, pool, table, index, plain, child(plain, i, 2), out, a);
     let c = between(plain, i, out, b);
-    let d = statements(text, pool, table, plain, child(plain, i, 3), out, c);
+    let d = statements(text, pool, table, index, plain, child(plain, i, 3), out, c);
     put(out, d, b"END_IF;\n")
 }
 
@@ -325,14 +327,15 @@ pub fn list(
     text: &[u8],
     pool: &[u16],
     table: &[u16],
+    index: &[usize; 64],
     plain: &[u16],
     i: usize,
     out: &mut [u8],
     at: usize,
 ) -> usize
-    requires { ⌜ (4 ≤ length (now pool)) × (4 * i + 4 ≤ length (now plain)) ⌝ }
+    requires { ⌜ (4 ≤ length (now pool)) × (4 * i + 4 ≤ length (now plain)) × (Indexed (now pool) (now table) (now index)) ⌝ }
     ensures { λ r. ⌜ Printed (now (out .entry)) (now (out .exit)) at (whole (listedIn (now (text .entry)) (now (pool .entry)) (now (table .entry))) (listAt (now (plain .entry)) i)) r ⌝ }
 {
-    let a = statements(text, pool, table, plain, i, out, at);
+    let a = statements(text, pool, table, index, plain, i, out, at);
     semicolon(plain, i, out, a)
 }

@@ -8,7 +8,7 @@ ghost use Rattle.paper.specs.Words.{typeName};
 ghost use Rattle.paper.specs.Names.{ofKind};
 ghost use Rattle.paper.specs.Printing as P;
 ghost use Rattle.tree.specs.Trees.{initialAt, wholeAt};
-ghost use Rattle.variables.specs.Table.{entryAt, entries};
+ghost use Rattle.variables.specs.Table.{nameIn, entryAt, entries};
 ghost use Rattle.print.specs.Printed.{Printed};
 ghost use Rattle.print.specs.Parts.{sectionOf, ofSection, isOf, Counts, typing, arrayOf, headed};
 use crate::bytes::capitals;
@@ -26,6 +26,7 @@ use value::same_type;
 use variables::bounds_of;
 use variables::declaration_of;
 use variables::is_array;
+use variables::key_of;
 use variables::section_of;
 use variables::type_of;
 use words::name_of;
@@ -139,6 +140,18 @@ fn count(pool: &[u16], table: &[u16], section: u16) -> usize
     k
 }
 
+// The name of the variable `v`; `?` where its key is another's.
+pub fn named(text: &[u8], table: &[u16], v: usize, out: &mut [u8], at: usize) -> usize
+    requires { ⌜ v < length (now table) / 4 ⌝ }
+    ensures { λ r. ⌜ Printed (now (out .entry)) (now (out .exit)) at (λ k. nameIn (now (text .entry)) (now (table .entry)) v ++ k) r ⌝ }
+{
+    let place = word(table, v, 0);
+    if word(table, v, 3) == key_of(text, place) {
+        return capitals(out, at, name_of(text, place as usize));
+    }
+    put(out, at, b"?")
+}
+
 // The variable `v`, if it is of the section.
 fn variable(
     text: &[u8],
@@ -153,7 +166,7 @@ fn variable(
     ensures { λ r. ⌜ Printed (now (out .entry)) (now (out .exit)) at (P.declarations (ofKind (sectionOf section) (entryAt (now (text .entry)) (now (pool .entry)) (now (table .entry)) v ∷ []))) r ⌝ }
 {
     if is_of(pool, table, section, v) {
-        let a = capitals(out, at, name_of(text, word(table, v, 0) as usize));
+        let a = named(text, table, v, out, at);
         let b = put(out, a, b" : ");
         return typed(pool, declaration_of(pool, table, v), out, b);
     }

@@ -2,6 +2,7 @@
 pub mod body;
 pub mod bytes;
 pub mod declared;
+pub mod index;
 
 ghost use mathlib.Core.List.{_++_};
 ghost use Prim.Native.Nat.{_+_, _*_, _/_, _≤_};
@@ -30,6 +31,7 @@ pub fn print(
     let b = bytes::capitals(out, a, name_of(text, name));
     let c = bytes::put(out, b, b"\n");
     let d = declared::sections(text, pool, table, out, c);
-    let e = body::list(text, pool, table, plain, root, out, d);
+    let index = index::indexed(pool, table);
+    let e = body::list(text, pool, table, &index, plain, root, out, d);
     bytes::put(out, e, b"END_PROGRAM\n")
 }

@@ -1,7 +1,7 @@
 -- What the refusals 1 to 4 of a text are.
 use mathlib.Core.Path.{_≡_}
 use mathlib.Core.List.{List}
-use Prim.Native.Nat.{ℕ, _≤_}
+use Prim.Native.Nat.{ℕ, _+_, _*_, _≤_}
 use lib.ListN.{length}
 use Rattle.paper.specs.Refusals.{Answer, refused, given, numberOf, _>>=_}
 use Rattle.paper.specs.Words.{wordsOf}
@@ -17,6 +17,10 @@ shaped t = do
   short ← shortEnough t
   ts ← wordsOf t
   programOf ts
+
+-- the pool p has room for a node to each byte of a text that is short enough
+abbrev pub TreeFits : List ℕ → List ℕ → Type 0
+TreeFits t p = length t ≤ 8192 → 4 * length t + 4 ≤ length p
 
 -- a refusal's number and its place; or 0 and 0, and the program in the pool
 abbrev pub IsShape : List ℕ → List ℕ → Answer Program → Shape → Type 0

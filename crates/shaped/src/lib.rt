@@ -1,7 +1,5 @@
 // The refusals 1 to 4 of a text, one after another.
-ghost use Prim.Native.Nat.{_≤_};
-ghost use lib.ListN.{length};
-ghost use Rattle.shaped.specs.Shapes.{ShapeDid};
+ghost use Rattle.shaped.specs.Shapes.{TreeFits, ShapeDid};
 use words::FirstBad;
 
 // A refusal's number and its place; 0 and 0 where the text is well shaped, and then the root of its tree.
@@ -13,7 +11,7 @@ pub struct Shape {
 
 // The first of the refusals 1 to 4 of a text.
 pub fn shape_of(text: &[u8], pool: &mut [u16]) -> Shape
-    requires { ⌜ 32772 ≤ length (now pool) ⌝ }
+    requires { ⌜ TreeFits (now text) (now pool) ⌝ }
     ensures { λ r. ⌜ ShapeDid (now (text .entry)) (now (pool .exit)) r ⌝ }
 {
     if 8192 < text.len() {

@@ -2,6 +2,7 @@
 ghost use mathlib.Core.Path.{_≡_};
 ghost use Prim.Native.Nat.{_+_, _*_, _<_, _≤_};
 ghost use lib.ListN.{length};
+ghost use Rattle.words.specs.Denoted.{IsWord};
 ghost use Rattle.expressions.specs.Reads.{Room};
 ghost use Rattle.statements.specs.Lists.{StartsIs, LinkedDid, ListDid, StatementDid, AssignmentDid, BranchDid, BranchesDid, OtherwiseDid, ClosingDid, CasesDid, ArmsDid, MoreArmsDid, ElseListDid, LabelsDid, LabelDid, SignedNumberDid, RepeatDid, HeadDid, BoundsDid, StepDid};
 use expressions::Parsed;
@@ -26,6 +27,7 @@ use expressions::classes::SEMICOLON;
 use expressions::classes::THEN;
 use expressions::classes::TO;
 use expressions::expect;
+use expressions::expected;
 use expressions::expression;
 use expressions::high;
 use expressions::leaf;
@@ -34,6 +36,7 @@ use expressions::primary;
 use tree::put;
 use words::NAME;
 use words::NUMBER;
+use words::Word;
 use words::next_word;
 
 // Whether a word of the class starts a statement.
@@ -58,8 +61,9 @@ pub fn list(
     let mut from = at;
     let mut nodes = count;
     let mut root = before;
+    let mut w = next_word(text, at);
     loop {
-        let s = statement(text, from, depth, pool, nodes);
+        let s = statement(text, from, w, depth, pool, nodes);
         if s.code != 0 {
             return s;
         }
@@ -71,7 +75,7 @@ pub fn list(
         from = e.at;
         nodes = l.count;
         root = l.root;
-        let w = next_word(text, from);
+        w = next_word(text, from);
         if !starts(w.class) {
             break;
         }
@@ -109,12 +113,18 @@ fn linked(pool: &mut [u16], count: usize, before: usize, s: usize) -> Parsed
     leaf(0, count + 1)
 }
 
-// A statement; nil for an empty one. 3 at a word that starts none, else 4 where it is too deep.
-fn statement(text: &[u8], at: usize, depth: usize, pool: &mut [u16], count: usize) -> Parsed
-    requires { ⌜ Room (now text) (now pool) at count ⌝ }
+// A statement whose first word is `w`; nil for an empty one. 3 at a word that starts none, else 4 where it is too deep.
+fn statement(
+    text: &[u8],
+    at: usize,
+    w: Word,
+    depth: usize,
+    pool: &mut [u16],
+    count: usize,
+) -> Parsed
+    requires { ⌜ Room (now text) (now pool) at count × IsWord (now text) at w ⌝ }
     ensures { λ r. ⌜ StatementDid (now (text .entry)) (now (pool .entry)) (now (pool .exit)) at depth count r ⌝ }
 {
-    let w = next_word(text, at);
     let starting = starts(w.class);
     if !starting {
         return Parsed {
@@ -133,7 +143,7 @@ fn statement(text: &[u8], at: usize, depth: usize, pool: &mut [u16], count: usiz
         };
     }
     if w.class == NAME {
-        return assignment(text, at, pool, count);
+        return assignment(text, at, w, pool, count);
     }
     if w.class == IF {
         return branch(text, w.end, depth, pool, count, w.at, w.at);
@@ -152,20 +162,20 @@ fn statement(text: &[u8], at: usize, depth: usize, pool: &mut [u16], count: usiz
     }
 }
 
-// target := expression
-fn assignment(text: &[u8], at: usize, pool: &mut [u16], count: usize) -> Parsed
-    requires { ⌜ Room (now text) (now pool) at count ⌝ }
+// target := expression; `w` is the target's name.
+fn assignment(text: &[u8], at: usize, w: Word, pool: &mut [u16], count: usize) -> Parsed
+    requires { ⌜ Room (now text) (now pool) at count × IsWord (now text) at w ⌝ }
     ensures { λ r. ⌜ AssignmentDid (now (text .entry)) (now (pool .entry)) (now (pool .exit)) at count r ⌝ }
 {
-    let x = primary(text, at, 0, pool, count);
+    let x = primary(text, at, w, 0, pool, count);
     if x.code != 0 {
         return x;
     }
-    let w = next_word(text, x.at);
-    if w.class != BECOMES {
-        return broken(w.at, x.count);
+    let b = next_word(text, x.at);
+    if b.class != BECOMES {
+        return broken(b.at, x.count);
     }
-    let e = expression(text, w.end, 1, 0, pool, x.count);
+    let e = expression(text, b.end, 1, 0, pool, x.count);
     if e.code != 0 {
         return e;
     }
@@ -175,7 +185,7 @@ fn assignment(text: &[u8], at: usize, pool: &mut [u16], count: usize) -> Parsed
         40,
         x.root as u16,
         e.root as u16,
-        w.at as u16,
+        b.at as u16,
     );
     leaf(e.at, e.count + 1)
 }
@@ -263,24 +273,24 @@ fn otherwise(
     if w.class == ELSIF {
         return branch(text, w.end, depth + 1, pool, count, w.at, q);
     }
-    closing(text, at, depth, pool, count, END_IF)
+    closing(text, at, w, depth, pool, count, END_IF)
 }
 
-// An ELSE list or nothing, and the closing word.
+// An ELSE list or nothing, and the closing word; `w` is the first word.
 fn closing(
     text: &[u8],
     at: usize,
+    w: Word,
     depth: usize,
     pool: &mut [u16],
     count: usize,
     class: u8,
 ) -> Parsed
-    requires { ⌜ Room (now text) (now pool) at count × (depth ≤ 32 + at) ⌝ }
+    requires { ⌜ Room (now text) (now pool) at count × IsWord (now text) at w × (depth ≤ 32 + at) ⌝ }
     ensures { λ r. ⌜ ClosingDid (now (text .entry)) (now (pool .entry)) (now (pool .exit)) at depth count class r ⌝ }
 {
-    let w = next_word(text, at);
     if w.class != ELSE {
-        return expect(text, at, class, count);
+        return expected(w, class, count);
     }
     let b = list(text, w.end, depth + 1, pool, count, 0);
     if b.code != 0 {
@@ -363,7 +373,7 @@ fn more_arms(text: &[u8], at: usize, depth: usize, pool: &mut [u16], count: usiz
     if w.class == NUMBER || w.class == MINUS {
         return arms(text, at, depth + 1, pool, count);
     }
-    let b = closing(text, at, depth, pool, count, END_CASE);
+    let b = closing(text, at, w, depth, pool, count, END_CASE);
     else_list(pool, b)
 }
 

@@ -6,12 +6,12 @@ use lib.IntN.{ℤ}
 use Rattle.paper.specs.declared.Why.{Why}
 use Rattle.paper.specs.Refusals.{Answer, numberOf}
 use Rattle.paper.specs.Tables.{Lent}
-use Rattle.kaldvimur.specs.declared.Outcome.{Outcome}
-use Rattle.kaldvimur.specs.declared.Outcome.the-variants.{Done, Refused}
+use Rattle.lent.specs.declared.Outcome.{Outcome}
+use Rattle.lent.specs.declared.Outcome.the-variants.{Done, Refused}
 use Rattle.try_runs.specs.declared.compare.Wanted.{Wanted}
 use Rattle.try_runs.specs.declared.compare.Wanted.the-variants.{Count, Refusal}
 use Rattle.kaldvimur.specs.Scans.{StartDid, ScanDid}
-use Rattle.kaldvimur.specs.Tables as T
+use Rattle.lent.specs.Tables as T
 use Rattle.try_runs.specs.Expected.{IsAs, counted, StartsAs, ScansAs, LentAs}
 
 pub is-count : {o : Outcome} {w : Wanted} {n m : ℕ} → o ≡ Done n → w ≡ Count m → n ≡ m → IsAs o w

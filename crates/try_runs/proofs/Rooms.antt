@@ -15,11 +15,11 @@ use Rattle.paper.specs.Refusals.{Answer, refused, given, whyOf}
 use Rattle.paper.specs.Tables.{Lent}
 use Rattle.paper.specs.Judge.{judge, startInto, tableInto}
 use Rattle.paper.proofs.Whys.{why-number}
-use Rattle.kaldvimur.specs.declared.Outcome.{Outcome}
-use Rattle.kaldvimur.specs.declared.Outcome.the-variants as O
+use Rattle.lent.specs.declared.Outcome.{Outcome}
+use Rattle.lent.specs.declared.Outcome.the-variants as O
 use Rattle.kaldvimur.specs.declared.tables.Tabled.{Tabled}
 use Rattle.kaldvimur.specs.declared.tables.Tabled.the-variants.{Made, Refused}
-use Rattle.kaldvimur.specs.Outcomes.{outcome}
+use Rattle.lent.specs.Outcomes.{outcome}
 use Rattle.kaldvimur.specs.Scans.{celled}
 use Rattle.kaldvimur.specs.Tables.{tabled, TableDid}
 use Rattle.try_runs.specs.declared.compare.Wanted.{Wanted}

@@ -6,11 +6,11 @@ use lib.IntN.{ℤ}
 use Rattle.paper.specs.Refusals.{Answer, numberOf}
 use Rattle.paper.specs.Tables.{Lent}
 use Rattle.paper.specs.Judge.{judge, startInto, scanFrom, scanLent}
-use Rattle.kaldvimur.specs.declared.Outcome.{Outcome}
-use Rattle.kaldvimur.specs.declared.Outcome.the-variants.{Done, Refused}
+use Rattle.lent.specs.declared.Outcome.{Outcome}
+use Rattle.lent.specs.declared.Outcome.the-variants.{Done, Refused}
 use Rattle.try_runs.specs.declared.compare.Wanted.{Wanted}
 use Rattle.try_runs.specs.declared.compare.Wanted.the-variants.{Count, Refusal}
-use Rattle.kaldvimur.specs.Outcomes.{outcome, left}
+use Rattle.lent.specs.Outcomes.{outcome, left}
 use Rattle.kaldvimur.specs.Scans.{celled, stepped, stateOf}
 
 -- done with the expected count, or refused with the expected number and place

@@ -8,11 +8,11 @@ use Rattle.paper.specs.declared.Why.the-variants.{NoRoom}
 use Rattle.paper.specs.Refusals.{Answer, refused, given}
 use Rattle.paper.specs.Tables.{Lent}
 use Rattle.paper.specs.Judge.{startInto, tableInto}
-use Rattle.kaldvimur.specs.declared.Outcome.{Outcome}
-use Rattle.kaldvimur.specs.declared.Outcome.the-variants as O
+use Rattle.lent.specs.declared.Outcome.{Outcome}
+use Rattle.lent.specs.declared.Outcome.the-variants as O
 use Rattle.kaldvimur.specs.declared.tables.Tabled.{Tabled}
 use Rattle.kaldvimur.specs.declared.tables.Tabled.the-variants.{Made, Refused}
-use Rattle.kaldvimur.specs.Outcomes.{outcome}
+use Rattle.lent.specs.Outcomes.{outcome}
 use Rattle.try_runs.specs.declared.compare.Wanted.{Wanted}
 use Rattle.try_runs.specs.Expected.{IsAs}
 

@@ -7,7 +7,7 @@ use lib.ListN.{take, replicate}
 use Rattle.paper.specs.declared.Why.{Why}
 use Rattle.paper.specs.Refusals.{numberOf}
 use Rattle.tally.specs.declared.Answer.{Answer}
-use Rattle.kaldvimur.specs.declared.Outcome.the-variants.{Done, Refused}
+use Rattle.lent.specs.declared.Outcome.the-variants.{Done, Refused}
 use Rattle.kaldvimur.specs.Outcomes.{PrintDid}
 use Rattle.try_texts.specs.Prints.{PrintedAs, Answered}
 use Rattle.kaldvimur.proofs.Fits.{print-done, print-refused, whyIn, placeIn, isRefused}

@@ -11,6 +11,7 @@ use Rattle.paper.specs.Refusals.{Answer, refused, given}
 use Rattle.paper.specs.Source as S
 use Rattle.paper.specs.Source.{Label, one, range}
 use Rattle.paper.specs.Names.{Variable}
+use Rattle.paper.specs.Typing.{typeIn}
 use Rattle.paper.specs.Plain.{Expr, State, truth, binary, parts}
 use Rattle.paper.specs.Unwinding.{Selector, testOf, orTests, testsOf, plainOf}
 use Rattle.tree.specs.Nodes.{Same}
@@ -60,7 +61,7 @@ module _ (p : List ℕ) (i : ℕ) (nil : i ≡ 0) where
 -- ---- the arm
 
 module _ (vs : List Variable) (env : State) (old mid : List ℕ) (sel : Stand.Selector) (e : S.Expr) (p : List ℕ) (i n w : ℕ) (v : Part) (r : Walk)
-    (d : PartDid vs (length env) old mid n (plainOf vs env DINT e) v) where
+    (d : PartDid vs (length env) old mid n (plainOf vs env DINT e) (typeIn vs DINT e) v) where
   abbrev tests : Expr → Expr
   tests x = testsOf (selecting sel x) (labelsAt p i)
 

@@ -4,6 +4,7 @@ use mathlib.Core.List.{List}
 use Prim.Native.Nat.{ℕ, _+_, _*_, _≤_, _<_, min}
 use native.Mathlib.Omega.{arith}
 use lib.ListN.{length}
+use Rattle.paper.specs.declared.Ty.{Ty}
 use Rattle.paper.specs.declared.Ty.the-variants.{Dint as DINT}
 use Rattle.paper.specs.declared.Why.the-variants.{TooHeavy}
 use Rattle.paper.specs.Refusals.{Answer, refused, given, _>>=_}
@@ -53,9 +54,9 @@ part-given mid n (refused y q) v h z = absurd (code-pos y (sym (h .0) ∙ z))
 part-given mid n (given x) v h z = record { plain = x; is = refl; counted = h .1; ends = h .2 }
 
 -- of one that is light the nodes stand, and a walk may follow
-pub part-light : {vs : List Variable} {size : ℕ} {old mid : List ℕ} {n : ℕ} {o : Answer Expr} {v : Part} (d : PartDid vs size old mid n o v) (w : ℕ)
+pub part-light : {vs : List Variable} {size : ℕ} {old mid : List ℕ} {n : ℕ} {o : Answer Expr} {u : Ty} {v : Part} (d : PartDid vs size old mid n o u v) (w : ℕ)
     → v .code ≡ 0 → w + v .parts ≤ 3000 → n ≤ 4 * w → 60800 ≤ length old → (v .count ≡ n + v .parts) × (0 < v .parts)
-part-light {vs} {size} {old} {mid} {n} {o} {v} d w z l k f =
+part-light {vs} {size} {old} {mid} {n} {o} {u} {v} d w z l k f =
     let g = part-given mid n (d .own) v (d .parted) z in
     let some = parts-some (g .plain) in
     let e : v .parts ≡ parts (g .plain) = omega (arith, g .counted) in

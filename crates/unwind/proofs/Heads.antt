@@ -1,5 +1,5 @@
 -- The head of a FOR: its variable's cell, its values, and when there is one.
-use mathlib.Core.Path.{_≡_, refl, sym, ap, ap₂, _∙_}
+use mathlib.Core.Path.{_≡_, refl, sym, ap, _∙_}
 use mathlib.Core.Bool.{Bool, true, false, cond, not, _&&_, false≢true}
 use mathlib.Core.Option.{Option, none, some, Option·some-inj}
 use mathlib.Core.List.{List}
@@ -19,14 +19,16 @@ use Rattle.paper.specs.Types.{width, signed, reading, decode}
 use Rattle.paper.specs.Source as S
 use Rattle.paper.specs.Source.{Name}
 use Rattle.paper.specs.Names.{Variable, find}
-use Rattle.paper.specs.Typing.{isZero, typeOfName, typeIn}
+use Rattle.paper.specs.Typing.{isZero, typeIn}
 use Rattle.paper.specs.Plain.{State}
 use Rattle.paper.specs.Meaning.{_>>=_, cellOfVariable, variableCell, value, wholeValue}
 use Rattle.tree.specs.Nodes.{childOf}
 use Rattle.tree.specs.Trees.{placeAt, nameAt, exprAt}
 use Rattle.constants.specs.declared.Celled.{Celled}
 use Rattle.constants.specs.declared.Wholed.{Wholed}
-use Rattle.constants.specs.Answers.{given, celled, wholed}
+use Rattle.constants.specs.Answers.{given, celled, wholed, OfName}
+use Rattle.constants.proofs.Given.{given-in}
+use Rattle.constants.proofs.Types.{type-of-name}
 use Rattle.value.proofs.Residues.{modulus-small, wrapped-below}
 use Rattle.variables.specs.Table.{listedIn}
 use Rattle.unwind.specs.declared.loops.Head.{Head}
@@ -94,19 +96,14 @@ module _ (w : Worked) where
   all true l true fa fb h = rw (h refl) (ends (isZero (w .by)) fa fb)
 
 module _ (vs : List Variable) (env : State) (n : Name) (A B C : S.Expr) (t : Ty) (cell : Celled) (c a b : Wholed)
-    (et : t ≡ typeOfName vs n) (ecell : celled cell ≡ variableCell vs n)
+    (et : OfName vs n (cell .some) t) (ecell : celled cell ≡ variableCell vs n)
     (ec : wholed c ≡ wholeValue vs env t C) (ea : wholed a ≡ wholeValue vs env t A) (eb : wholed b ≡ wholeValue vs env t B) where
   abbrev head : Worked
   head = record { ty = t; cell = record { 0 = cell .cell }; by = c .value; from = a .value; to = b .value }
 
-  type-of : (v : Variable) → find n vs ≡ some v → t ≡ v .declared .ty
-  unfolding typeOfName
-  type-of v e = et ∙ rw (e, typeOfName)
-
-  -- with the variable at hand
-  abbrev from : Option Cell → Ty → Option Worked
-  from o u =
-      o >>= λ cell.
+  -- with the cell at hand
+  abbrev at : Ty → Cell → Option Worked
+  at u cell =
       wholeValue vs env u C >>= λ by.
       wholeValue vs env u A >>= λ from.
       wholeValue vs env u B >>= λ to. cond (isZero by) none (some (record { ty = u; cell = cell; by = by; from = from; to = to }))
@@ -116,7 +113,7 @@ module _ (vs : List Variable) (env : State) (n : Name) (A B C : S.Expr) (t : Ty)
       lt-ltb (cell .cell) (length env)
       (variable-inside vs (length env) ins (record { 0 = cell .cell }) n (sym ecell ∙ ap (λ f. given f (record { 0 = cell .cell })) e))
 
-  flags : Inside (length env) vs → given (isWorked cell (length env) c a b) head ≡ from (celled cell) t
+  flags : Inside (length env) vs → given (isWorked cell (length env) c a b) head ≡ (celled cell >>= at t)
   flags ins = all head (cell .some) (ltb (cell .cell) (length env)) (c .some) (a .some) (b .some) (within ins) ∙ rw (ec, ea, eb)
 
   head-is : Inside (length env) vs → given (isWorked cell (length env) c a b) head ≡ headIn vs env n A B C
@@ -126,8 +123,9 @@ module _ (vs : List Variable) (env : State) (n : Name) (A B C : S.Expr) (t : Ty)
       go none e = flags ins ∙ rw (ecell, e)
       go (some v) e =
           flags ins
-          ∙ ap₂ from (ecell ∙ ap (λ f. f >>= cellOfVariable) e) (type-of v e)
-          ∙ sym (ap (λ f. f >>= λ v. from (cellOfVariable v) (v .declared .ty)) e)
+          ∙ given-in (cell .some) (record { 0 = cell .cell }) at t (v .declared .ty) (λ f. et f ∙ sym (type-of-name vs n v e))
+          ∙ ap (λ o. o >>= at (v .declared .ty)) (ecell ∙ ap (λ f. f >>= cellOfVariable) e)
+          ∙ sym (ap (λ f. f >>= λ v. cellOfVariable v >>= at (v .declared .ty)) e)
 
   -- what stands where the flag is up
   module _ (up : isWorked cell (length env) c a b ≡ true) where
@@ -167,7 +165,7 @@ module _ (t p tab : List ℕ) (env : State) (i h g n x y z : ℕ)
   head-at = rw (ex, ey, ez, en, eg, eh)
 
   pub head-did : (ty : Ty) (cell : Celled) (c a b : Wholed) (r : Head)
-      → celled cell ≡ variableCell vs (nameAt t n) → ty ≡ typeOfName vs (nameAt t n)
+      → celled cell ≡ variableCell vs (nameAt t n) → OfName vs (nameAt t n) (cell .some) ty
       → wholed c ≡ wholeValue vs env ty (of x) → wholed a ≡ wholeValue vs env ty (of y) → wholed b ≡ wholeValue vs env ty (of z)
       → r .some ≡ isWorked cell (length env) c a b → r .place ≡ placeAt p i → r .cell ≡ cell .cell → r .ty ≡ ty
       → r .by ≡ c .value → r .from ≡ a .value → r .to ≡ b .value → HeadDid t p tab env i r

@@ -1,5 +1,6 @@
 pub mod Emits
 pub mod Exprs
+pub mod Settling
 pub mod Insides
 pub mod Parting
 pub mod Walking

@@ -11,6 +11,7 @@ use Rattle.paper.specs.declared.Ty.the-variants.{Bool as BOOL, Dint as DINT}
 use Rattle.paper.specs.Refusals.{Answer, refused, given, numberOf, _>>=_}
 use Rattle.paper.specs.Source.{Name}
 use Rattle.paper.specs.Names.{Variable, sizeOf, find}
+use Rattle.paper.specs.Typing.{typeIn}
 use Rattle.paper.specs.Plain as Plain
 use Rattle.paper.specs.Plain.{Expr, State, read}
 use Rattle.paper.specs.Unwinding.{bracketOf, cellIn, plainOf}
@@ -49,8 +50,8 @@ Parted new n (given x) r =
     × (r .parts ≡ min 3001 (Plain.parts x))
     × (Holds new (n + Plain.parts x) → (r .count ≡ n + Plain.parts x) × (exprAt new (r .count) ≡ x))
 
--- a walk with an answer of its own, which is o where the variables' cells are among the first `size`
-pub record PartDid (vs : List Variable) (size : ℕ) (old new : List ℕ) (n : ℕ) (o : Answer Expr) (r : Part) : Type 0 where
+-- a walk with an answer of its own, which is o where the variables' cells are among the first `size`; u is the type
+pub record PartDid (vs : List Variable) (size : ℕ) (old new : List ℕ) (n : ℕ) (o : Answer Expr) (u : Ty) (r : Part) : Type 0 where
   pub more : n ≤ r .count
   pub holds : Holds new (r .count)
   pub long : length new ≡ length old
@@ -59,20 +60,26 @@ pub record PartDid (vs : List Variable) (size : ℕ) (old new : List ℕ) (n : �
   pub own : Answer Expr
   pub parted : Parted new n own r
   pub is : Inside size vs → own ≡ o
+  pub typed : r .code ≡ 0 → r .ty ≡ u
 
 abbrev pub PlainDid : List ℕ → List ℕ → List ℕ → State → Ty → ℕ → List ℕ → List ℕ → ℕ → Part → Type 0
 PlainDid t p tab env u i old new n r =
-    PartDid (listedIn t p tab) (length env) old new n (plainOf (listedIn t p tab) env u (T.exprAt t p i)) r
+    let vs = listedIn t p tab in
+    let e = T.exprAt t p i in
+    PartDid vs (length env) old new n (plainOf vs env u e) (typeIn vs u e) r
 
--- the cell of a name or element
+-- the cell of a name or element, whatever type is offered
 abbrev pub ReadDid : List ℕ → List ℕ → List ℕ → State → ℕ → List ℕ → List ℕ → ℕ → Part → Type 0
 ReadDid t p tab env i old new n r =
-    PartDid (listedIn t p tab) (length env) old new n (cellIn (listedIn t p tab) env (T.exprAt t p i) >>= λ c. given (read c)) r
+    let vs = listedIn t p tab in
+    let e = T.exprAt t p i in
+    (u : Ty) → PartDid vs (length env) old new n (cellIn vs env e >>= λ c. given (read c)) (typeIn vs u e) r
 
 -- a number, FALSE or TRUE, whatever the text and the variables
 abbrev pub ConstantDid : List ℕ → Ty → ℕ → List ℕ → List ℕ → ℕ → Part → Type 0
 ConstantDid p u i old new n r =
-    (t : List ℕ) (vs : List Variable) (env : State) (size : ℕ) → PartDid vs size old new n (plainOf vs env u (T.exprAt t p i)) r
+    (t : List ℕ) (vs : List Variable) (env : State) (size : ℕ)
+    → PartDid vs size old new n (plainOf vs env u (T.exprAt t p i)) (typeIn vs u (T.exprAt t p i)) r
 
 -- 8 at the place of `[`
 pub record NoCell (p : List ℕ) (i n : ℕ) (r : Part) : Type 0 where
@@ -81,9 +88,9 @@ pub record NoCell (p : List ℕ) (i n : ℕ) (r : Part) : Type 0 where
   pub count : r .count ≡ n
   pub parts : r .parts ≡ 0
 
--- ---- an operator over operands just walked, unless the last was refused
+-- ---- an operator over operands just walked, unless the last was refused; u is its type
 
-pub record Wrapped (old new : List ℕ) (k a b c n : ℕ) (y r : Part) : Type 0 where
+pub record Wrapped (old new : List ℕ) (k a b c n : ℕ) (u : Ty) (y r : Part) : Type 0 where
   pub more : y .count ≤ r .count
   pub holds : Holds new (r .count)
   pub long : length new ≡ length old
@@ -91,6 +98,7 @@ pub record Wrapped (old new : List ℕ) (k a b c n : ℕ) (y r : Part) : Type 0 
   pub small : r .parts ≤ 3001
   pub bad : (y .code ≡ 0 → ⊥) → (r .code ≡ y .code) × (r .at ≡ y .at)
   pub good : y .code ≡ 0 → Emitted old new (y .count) k a b c (r .count) × (r .code ≡ 0) × (r .parts ≡ min 3001 n)
+  pub typed : r .code ≡ 0 → (y .code ≡ 0) × (r .ty ≡ u)
 
 -- the type that is offered to the operand of a node of kind k, whose word 2 is w
 abbrev pub offeredAt : ℕ → ℕ → Ty → Ty

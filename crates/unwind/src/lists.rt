@@ -13,9 +13,7 @@ use crate::parts::bracket_of;
 use crate::parts::emit;
 use crate::parts::plain_of;
 use constants::cell_of;
-use constants::type_in;
 use paper::Cell;
-use paper::Ty;
 use plain::cells_within;
 use tree::child;
 use tree::kind;
@@ -122,7 +120,7 @@ pub fn assignment(
     let n = c.cell;
     if c.some {
         if n < env.len() {
-            let t = type_in(text, pool, table, Ty::Dint, x);
+            let t = c.ty;
             let v = plain_of(text, pool, table, env, t, child(pool, i, 2), out, count);
             return assigned(out, first_word(pool, x), Cell(n as u16), v, weight);
         }

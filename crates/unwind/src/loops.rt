@@ -15,7 +15,6 @@ use crate::lists::walked;
 use crate::parts::emit;
 use constants::Celled;
 use constants::Wholed;
-use constants::type_of_name;
 use constants::variable_cell;
 use constants::whole_in;
 use paper::Ty;
@@ -70,7 +69,7 @@ pub fn head_of(text: &[u8], pool: &[u16], table: &[u16], env: &[u32], i: usize) 
     let g = child(pool, h, 1);
     let name = word(pool, h, 3);
     let cell = variable_cell(text, pool, table, name);
-    let t = type_of_name(text, pool, table, name);
+    let t = cell.ty;
     let c = whole_in(text, pool, table, env, t, child(pool, h, 2));
     let a = whole_in(text, pool, table, env, t, child(pool, g, 1));
     let b = whole_in(text, pool, table, env, t, child(pool, g, 2));

@@ -8,8 +8,8 @@ ghost use Rattle.tree.specs.Nodes.{kindOf};
 ghost use Rattle.tree.specs.Trees as T;
 ghost use Rattle.unwind.specs.Parts.{Holds, Room, Emitted, PlainDid, ReadDid, ConstantDid, NoCell, Wrapped, offeredAt};
 use constants::cell_of;
-use constants::operand_type;
-use constants::type_in;
+use constants::offered_first;
+use constants::result_type;
 use paper::Ty;
 use tree::child;
 use tree::kind;
@@ -18,12 +18,14 @@ use tree::word;
 use value::tag_of;
 use variables::type_at;
 
-// Code 0, the last node, which is the expression's own, and its number of parts, 3001 standing for more than 3000; or 8 at a place.
+// Code 0, the last node, which is the expression's own, its number of parts, 3001 standing for more than 3000, and its type;
+// or 8 at a place.
 pub struct Part {
     pub code: u8,
     pub at: usize,
     pub count: usize,
     pub parts: usize,
+    pub ty: Ty,
 }
 
 // One node more, where there is room; of what is too long to weigh nothing is kept.
@@ -39,14 +41,15 @@ pub fn emit(out: &mut [u16], count: usize, kind: u16, a: u16, b: u16, c: u16) ->
 }
 
 // An expression that ends in a node just written.
-fn ended(count: usize, parts: usize) -> Part
-    ensures { λ r. ⌜ (r .code ≡ 0) × (r .count ≡ count) × (r .parts ≡ min 3001 parts) ⌝ }
+fn ended(count: usize, parts: usize, ty: Ty) -> Part
+    ensures { λ r. ⌜ (r .code ≡ 0) × (r .count ≡ count) × (r .parts ≡ min 3001 parts) × (r .ty ≡ ty) ⌝ }
 {
     Part {
         code: 0,
         at: 0,
         count,
         parts: if parts < 3001 { parts } else { 3001 },
+        ty,
     }
 }
 
@@ -78,6 +81,7 @@ fn no_cell(pool: &[u16], i: usize, count: usize) -> Part
         at: bracket_of(pool, i),
         count,
         parts: 0,
+        ty: Ty::Dint,
     }
 }
 
@@ -96,9 +100,10 @@ fn read(
 {
     let c = cell_of(text, pool, table, env, i);
     let n = c.cell;
+    let t = c.ty;
     if c.some {
         if n < env.len() {
-            return ended(emit(out, count, 5, n as u16, 0, 0), 1);
+            return ended(emit(out, count, 5, n as u16, 0, 0), 1, t);
         }
         return no_cell(pool, i, count);
     }
@@ -112,17 +117,17 @@ fn constant(pool: &[u16], t: Ty, i: usize, out: &mut [u16], count: usize) -> Par
 {
     let k = kind(pool, i);
     if k == 4 {
-        return ended(emit(out, count, 4, 0, 0, 0), 1);
+        return ended(emit(out, count, 4, 0, 0, 0), 1, Ty::Bool);
     }
     if k == 0 {
-        return ended(emit(out, count, 3, 0, 0, 0), 1);
+        return ended(emit(out, count, 3, 0, 0, 0), 1, Ty::Bool);
     }
     if 2 < k {
-        return ended(emit(out, count, 3, 0, 0, 0), 1);
+        return ended(emit(out, count, 3, 0, 0, 0), 1, Ty::Bool);
     }
     let low = word(pool, i, 1);
     let high = word(pool, i, 2);
-    ended(emit(out, count, k, low, high, tag_of(t) as u16), 1)
+    ended(emit(out, count, k, low, high, tag_of(t) as u16), 1, t)
 }
 
 // The type that is offered to the one operand of a node, where `t` is offered to the whole.
@@ -138,15 +143,15 @@ fn offered(k: u16, w: u16, t: Ty) -> Ty
     t
 }
 
-// An operator over operands that end in `y`, with `parts` parts in all, unless that was refused.
-fn wrapped(out: &mut [u16], y: Part, k: u16, a: u16, b: u16, c: u16, parts: usize) -> Part
+// An operator over operands that end in `y`, with `parts` parts in all and of the type `ty`, unless that was refused.
+fn wrapped(out: &mut [u16], y: Part, k: u16, a: u16, b: u16, c: u16, parts: usize, ty: Ty) -> Part
     requires { ⌜ (Room (now out) (y .count)) × (y .parts ≤ 3001) ⌝ }
-    ensures { λ r. ⌜ Wrapped (now (out .entry)) (now (out .exit)) k a b c parts y r ⌝ }
+    ensures { λ r. ⌜ Wrapped (now (out .entry)) (now (out .exit)) k a b c parts ty y r ⌝ }
 {
     if y.code != 0 {
         return y;
     }
-    ended(emit(out, y.count, k, a, b, c), parts)
+    ended(emit(out, y.count, k, a, b, c), parts, ty)
 }
 
 // The expression at a node, where `t` is offered, its subscripts looked at from the left.
@@ -200,8 +205,18 @@ fn unary_of(
     if k == 9 {
         return x;
     }
-    let v = tag_of(type_in(text, pool, table, t, a)) as u16;
-    wrapped(out, x, k, x.count as u16, w, v, x.parts + 1)
+    let u = x.ty;
+    let s = result_type(k, w, u);
+    wrapped(
+        out,
+        x,
+        k,
+        x.count as u16,
+        w,
+        tag_of(u) as u16,
+        x.parts + 1,
+        s,
+    )
 }
 
 // With two.
@@ -219,20 +234,22 @@ fn binary_of(
     ensures { λ r. ⌜ PlainDid (now (text .entry)) (now (pool .entry)) (now (table .entry)) (now (env .entry)) t i (now (out .entry)) (now (out .exit)) count r ⌝ }
 {
     let k = kind(pool, i);
-    let u = operand_type(text, pool, table, t, i);
-    let x = plain_of(text, pool, table, env, u, child(pool, i, 1), out, count);
+    let v = offered_first(text, pool, table, t, i);
+    let x = plain_of(text, pool, table, env, v, child(pool, i, 1), out, count);
     if x.code != 0 {
         return x;
     }
+    let u = x.ty;
     let y = plain_of(text, pool, table, env, u, child(pool, i, 2), out, x.count);
-    let v = tag_of(u) as u16;
+    let s = result_type(k, 0, u);
     wrapped(
         out,
         y,
         k,
         x.count as u16,
         y.count as u16,
-        v,
+        tag_of(u) as u16,
         x.parts + y.parts + 1,
+        s,
     )
 }

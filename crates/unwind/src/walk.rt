@@ -19,7 +19,6 @@ use crate::loops::head_of;
 use crate::loops::passed;
 use crate::loops::set_variable;
 use crate::parts::plain_of;
-use constants::type_in;
 use paper::Ty;
 use tree::child;
 use tree::kind;
@@ -161,11 +160,12 @@ fn select(
     if v.code != 0 {
         return refused(v.code, v.at, count);
     }
+    let t = v.ty;
     let sel = Selector {
         place: word(pool, i, 3) as usize,
         node: s,
         root: 0,
-        ty: type_in(text, pool, table, Ty::Dint, s),
+        ty: t,
     };
     arms(
         text,

@@ -13,7 +13,7 @@ use Rattle.paper.specs.Source.{Name, Declared}
 use Rattle.paper.specs.Names.{Variable, sizeOf, placed, find, isAmong}
 use Rattle.tree.specs.Nodes.{wordOf}
 use Rattle.tree.specs.Trees.{nameAt}
-use Rattle.variables.specs.Table.{entryAt, entries, variablesIn, listedTo, listedIn, namesTo}
+use Rattle.variables.specs.Table.{nameIn, entryAt, entries, variablesIn, listedTo, listedIn, namesTo}
 
 -- ---- variables
 
@@ -47,7 +47,7 @@ module _ (s : Name) where
 
 module _ (t tab : List ℕ) (place : ℕ) where
   abbrev Other : ℕ → Type 0
-  Other k = sameBytes (nameAt t place) (nameAt t (wordOf tab k 0)) ≡ false
+  Other k = sameBytes (nameAt t place) (nameIn t tab k) ≡ false
 
   -- none of the first n has the name
   abbrev pub NoneTo : ℕ → Type 0
@@ -90,7 +90,7 @@ module _ (t tab : List ℕ) (place : ℕ) where
               ap (λ xs. xs ++ entryAt t p tab n ∷ []) (q .1) ∙ append-assoc (entries t p tab r) (entryAt t p tab r ∷ q .0) (entryAt t p tab n ∷ []),
             )
 
-    pub found-at : (r : ℕ) → r < length tab / 4 → NoneTo r → sameBytes s (nameAt t (wordOf tab r 0)) ≡ true
+    pub found-at : (r : ℕ) → r < length tab / 4 → NoneTo r → sameBytes s (nameIn t tab r) ≡ true
         → (m : ℕ) × (find s (variablesIn t p tab) ≡ some (record { declared = entryAt t p tab r; first = m }))
     unfolding variablesIn
     found-at r l h e =
@@ -132,7 +132,7 @@ module _ (t tab : List ℕ) (place : ℕ) where
               ap (λ xs. xs ++ listing n ∷ []) (q .1) ∙ append-assoc (listedTo t p tab r) (listing r ∷ q .0) (listing n ∷ []),
             )
 
-    pub listed-at : (r : ℕ) → r < length tab / 4 → NoneTo r → sameBytes s (nameAt t (wordOf tab r 0)) ≡ true → find s (listedIn t p tab) ≡ some (listing r)
+    pub listed-at : (r : ℕ) → r < length tab / 4 → NoneTo r → sameBytes s (nameIn t tab r) ≡ true → find s (listedIn t p tab) ≡ some (listing r)
     unfolding listedIn
     listed-at r l h e =
         let q = split-listed (length tab / 4) r l in

@@ -1,10 +1,10 @@
--- What the table of variables holds: four words a variable, the place of its name, the node of its declaration, its first cell.
+-- What the table of variables holds: four words a variable, the place of its name, the node of its declaration, its first cell, its name's key.
 use mathlib.Core.Path.{_≡_}
 use mathlib.Core.Bool.{cond}
 use mathlib.Core.Option.{none, some}
 use mathlib.Core.List.{List, [], _∷_, _++_}
-use Prim.Native.Nat.{ℕ, zero, suc, _+_, _*_, _/_, _≤_, _<_}
-use lib.Dec.{leb}
+use Prim.Native.Nat.{ℕ, zero, suc, _+_, _*_, _/_, _%_, _≤_, _<_}
+use lib.Dec.{eqb, leb}
 use lib.ListN.{length, getD}
 use Rattle.paper.specs.declared.Ty.{Ty}
 use Rattle.paper.specs.declared.Ty.the-variants.{Bool as BOOL}
@@ -35,13 +35,22 @@ initialIn p j = initialAt p (childOf p (childOf p j 2) 2)
 abbrev pub nodeIn : List ℕ → ℕ → ℕ
 nodeIn p w = cond (leb (4 * w + 4) (length p)) w 0
 
+-- a key of 16 bits, the same for the same name: of each byte the five bits that a letter has in either case
+unfoldable pub keyOf : Name → ℕ
+keyOf [] = 0
+keyOf (c ∷ s) = (c % 32 + 31 * keyOf s) % 65536
+
+-- the name of the variable k; `?`, which no name is, where its key is another's
+unfoldable pub nameIn : List ℕ → List ℕ → ℕ → Name
+nameIn t tab k = let s = nameAt t (wordOf tab k 0) in cond (eqb (wordOf tab k 3) (keyOf s)) s (63 ∷ [])
+
 -- the variable k
 abbrev pub entryAt : List ℕ → List ℕ → List ℕ → ℕ → Declared
 entryAt t p tab k =
     let j = nodeIn p (wordOf tab k 1) in
     record {
       place = wordOf tab k 0;
-      name = nameAt t (wordOf tab k 0);
+      name = nameIn t tab k;
       kind = sectionAt p j;
       ty = typeAt p j;
       bounds = boundsIn p j;

@@ -1,17 +1,20 @@
-// The table of variables: four words each, the place of its name, the node of its declaration, its first cell.
+// The table of variables: four words each, the place of its name, the node of its declaration, its first cell, its name's key.
 ghost use mathlib.Core.Path.{_≡_};
 ghost use Prim.Native.Nat.{_+_, _*_, _/_, _≤_, _<_};
 ghost use lib.ListN.{length, getD};
 ghost use Rattle.paper.specs.declared.Ty.the-variants.{Bool as BOOL};
 ghost use Rattle.paper.specs.Names.{sizeOf, isArray, kindTag, isAmong};
+ghost use Rattle.words.specs.Denoted.{HasLength};
 ghost use Rattle.tree.specs.Nodes.{wordOf, childOf};
 ghost use Rattle.tree.specs.Trees.{nameAt, types};
-ghost use Rattle.variables.specs.Table.{typeAt, sectionAt, boundsIn, nodeIn, Finds, namesTo};
+ghost use Rattle.variables.specs.Table.{typeAt, sectionAt, boundsIn, nodeIn, keyOf, Finds, namesTo};
 use paper::Ty;
 use tree::child;
 use tree::kind;
 use tree::wide_at;
 use tree::word;
+use words::ends_alike;
+use words::name_length;
 use words::same_name;
 
 // The node of the bounds of a declaration.
@@ -89,14 +92,40 @@ pub fn declaration_of(pool: &[u16], table: &[u16], v: usize) -> usize
     if 4 * j + 4 <= pool.len() { j } else { 0 }
 }
 
-// The number of the variable of a name, or how many there are.
+// The key of the name at a place, which has `n` bytes; the last byte is counted first.
+fn key_from(text: &[u8], place: u16, n: usize) -> u16
+    requires { ⌜ HasLength (now text) place n ⌝ }
+    ensures { λ r. ⌜ r ≡ keyOf (nameAt (now (text .entry)) place) ⌝ }
+{
+    let at = place as usize;
+    let mut i = at + n;
+    let mut key: usize = 0;
+    while at < i {
+        i -= 1;
+        key = ((text[i] % 32) as usize + 31 * key) % 65536;
+    }
+    key as u16
+}
+
+// The key of the name at a place: names with different keys differ.
+pub fn key_of(text: &[u8], place: u16) -> u16
+    ensures { λ r. ⌜ r ≡ keyOf (nameAt (now (text .entry)) place) ⌝ }
+{
+    key_from(text, place, name_length(text, place as usize))
+}
+
+// The number of the variable of a name, or how many there are. The text is looked at only where the keys agree.
 pub fn find(text: &[u8], table: &[u16], place: u16) -> usize
     ensures { λ r. ⌜ Finds (now (text .entry)) (now (table .entry)) place r ⌝ }
 {
     let n = table.len() / 4;
+    let m = name_length(text, place as usize);
+    let key = key_from(text, place, m);
     let mut i = 0;
     while i < n {
-        if same_name(text, place as usize, word(table, i, 0) as usize) {
+        if word(table, i, 3) == key
+            && same_name(text, place as usize, m, word(table, i, 0) as usize)
+        {
             return i;
         }
         i += 1;
@@ -116,9 +145,11 @@ pub fn among(text: &[u8], places: &[u16], place: u16) -> bool
     ensures { λ r. ⌜ r ≡ isAmong (nameAt (now (text .entry)) place) (namesTo (now (text .entry)) (now (places .entry)) (length (now (places .entry)))) ⌝ }
 {
     let n = places.len();
+    let m = name_length(text, place as usize);
     let mut i = 0;
     while i < n {
-        if same_name(text, place as usize, place_at(places, i) as usize) {
+        let p = place_at(places, i) as usize;
+        if ends_alike(text, place as usize, m, p) && same_name(text, place as usize, m, p) {
             return true;
         }
         i += 1;

@@ -1,5 +1,5 @@
 -- How the words of a text go on behind a piece.
-use mathlib.Core.Path.{_≡_, refl, ap, _∙_}
+use mathlib.Core.Path.{_≡_, refl, sym, ap, _∙_}
 use mathlib.Core.Bool.{Bool, true, false, true≢false, false≢true}
 use mathlib.Core.List.{List, [], _∷_, _++_, append-assoc}
 use Prim.Native.Nat.{ℕ, suc, _+_, _-_, _≤_, _<_}
@@ -13,8 +13,9 @@ use Rattle.paper.specs.Words as W
 use Rattle.paper.specs.Words.{Token, pieceOf, wordsFrom, wordsOf}
 use Rattle.words.specs.declared.Word.{Word}
 use Rattle.words.specs.declared.Gap.{Gap}
-use Rattle.words.specs.Denoted.{folded, denoted, wordsAt, Skips, IsPiece, IsWordAt, answered, IsWord}
+use Rattle.words.specs.Denoted.{folded, denoted, wordsAt, Skips, IsPiece, IsWordAt, answered, classed, IsWord, IsTold}
 use Rattle.words.proofs.Gaps.{words-word, words-bad}
+use Rattle.words.proofs.Keys.{some-class}
 use Rattle.words.proofs.Pieces.{badAt}
 
 -- ---- the words from a place on
@@ -92,6 +93,24 @@ module _ (t : List ℕ) (at : ℕ) (g : Gap) (s : Skips t at g) where
         last = λ _. e;
         known = λ _. omega arith;
       }
+
+-- where reserved words aren't told, the word has some class, that of a bad word or the ending if it says so
+abbrev pub Found : List ℕ → ℕ → Word → Type 0
+Found t at r = (c : ℕ) × (eqb c 255 ≡ eqb (r .class) 255) × (eqb c 0 ≡ eqb (r .class) 0) × IsWord t at (classed r c)
+
+pub some-word : (t : List ℕ) (at : ℕ) (r : Word) → IsTold false t at r → Found t at r
+some-word t at r w = go (eqb (r .class) 1) refl
+  where
+    go : (b : Bool) → eqb (r .class) 1 ≡ b → Found t at r
+    go true q =
+        let k = some-class (folded t (r .at) (r .end)) in
+        let e : r .class ≡ 1 = eqb-true (r .class) 1 q in (
+          k .0,
+          ne-eqb (k .0) 255 (λ z. omega (arith, k .1 .high)) ∙ sym (ne-eqb (r .class) 255 (λ z. omega arith)),
+          ne-eqb (k .0) 0 (λ z. omega (arith, k .1 .low)) ∙ sym (ne-eqb (r .class) 0 (λ z. omega arith)),
+          w (k .0) (rw q (k .1)),
+        )
+    go false q = (r .class, refl, refl, w (r .class) (rw q))
 
 -- ---- the words so far
 

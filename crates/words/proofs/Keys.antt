@@ -1,17 +1,18 @@
 -- The keys of runs: a reserved word's is no other run's, and a run without such a key is a name.
-use mathlib.Core.Path.{_≡_, refl, sym, ap, _∙_}
+use mathlib.Core.Path.{_≡_, refl, sym, ap, subst, _∙_}
 use mathlib.Core.Bool.{Bool, true, false, cond, _||_, true≢false, false≢true}
 use mathlib.Core.List.{List, [], _∷_, map}
-use Prim.Native.Nat.{ℕ, zero, suc, _+_, _-_, _*_, _≤_, _<_}
+use mathlib.Core.Logic.{_⊎_, inl, inr}
+use Prim.Native.Nat.{ℕ, zero, suc, _+_, _-_, _*_, _%_, _≤_, _<_}
 use native.Mathlib.Omega.{arith}
 use borrow.Author.Tests.{ltb-true, lt-ltb, le-ltb, leb-true, eqb-true, ne-eqb}
 use lib.Dec.{eqb, ltb, leb}
 use lib.ListN.{length, getD, List·getD-map}
 use Rattle.paper.specs.Words.{Word, Spelled, name, bytes, between, isUnderscore, capital, sameBytes, reserved, typeName, conversionName, lookUp}
-use Rattle.words.specs.Keys.{keyDigit, keyOf, keys, keywordKeys, operandKeys, Numbered}
+use Rattle.words.specs.Keys.{keyDigit, keyOf, keys, keywordKeys, operandKeys, singly, Numbered, formOf, forms, Excludes}
 use Rattle.words.specs.Denoted.{folded, denoted, IsRunClass}
 use Rattle.words.proofs.Truths.{both, all, all-at, among, none-among}
-use Rattle.words.proofs.Runs.{part-cons, part-none}
+use Rattle.words.proofs.Runs.{part-cons, part-none, in-range}
 use Rattle.words.proofs.Spellings.{no-entry, reserved-length, reserved-entry, class-word, folded-length}
 
 -- ---- digits
@@ -141,8 +142,28 @@ is-name p s a q = record { low = omega arith; high = omega arith; word = sym (un
 pub other-length : (s : List ℕ) → between 2 13 (length s) ≡ false → IsRunClass s 1
 other-length s h = is-name (λ t. between 2 13 (length t)) s reserved-lengths h
 
+reserved-forms : all (λ (e : Spelled). among forms (formOf (e .spelling))) reserved ≡ true
+unfolding reserved bytes typeName conversionName
+reserved-forms = refl
+
+-- the case of a letter doesn't count
+same-letter : (c : ℕ) → capital c % 32 ≡ c % 32
+same-letter c = go (between 97 122 c) refl
+  where
+    go : (b : Bool) → between 97 122 c ≡ b → cond b (c - 32) c % 32 ≡ c % 32
+    go true h = omega (arith, in-range 97 122 c h)
+    go false h = refl
+
+module _ (t : List ℕ) (a e : ℕ) (h : a < e) (l : e ≤ length t) where
+  form : formOf (folded t a e) ≡ (e - a) * 32 + getD t a 0 % 32
+  form = rw (folded-length t a e l, part-cons t a e h l, same-letter (getD t a 0))
+
+  -- a run with the length and the first letter of none
+  pub other-form : (b : Bool) → Excludes forms ((e - a) * 32 + getD t a 0 % 32) b → b ≡ false → IsRunClass (folded t a e) 1
+  other-form b n q = is-name (λ s. among forms (formOf s)) (folded t a e) reserved-forms (rw form (none-among forms _ (Unit {0}) (subst (Excludes forms _) q n)))
+
 abbrev someKey : List ℕ → Bool
-someKey s = among keywordKeys (keyOf s) || among operandKeys (keyOf s)
+someKey s = among (singly keywordKeys) (keyOf s) || among (singly operandKeys) (keyOf s)
 
 reserved-some : all (λ (e : Spelled). someKey (e .spelling)) reserved ≡ true
 unfolding keyOf reserved bytes typeName conversionName
@@ -153,7 +174,7 @@ pub other-name :
     (s : List ℕ) {key : ℕ} (i j : ℕ) → key ≡ keyOf s → Numbered keywordKeys key i → 51 ≤ i → Numbered operandKeys key j → 51 ≤ j → IsRunClass s 1
 other-name s {key} i j q m hi n hj =
     is-name someKey s reserved-some
-    (rw (← q, none-among keywordKeys key (Unit {0}) (rw (le-ltb i 51 hi) at m), none-among operandKeys key (Unit {0}) (rw (le-ltb j 51 hj) at n)))
+    (rw (← q, none-among (singly keywordKeys) key (Unit {0}) (rw (le-ltb i 51 hi) at m), none-among (singly operandKeys) key (Unit {0}) (rw (le-ltb j 51 hj) at n)))
 
 -- a run with the key number i
 pub reserved-word : (ks s : List ℕ) {key : ℕ} (i : ℕ) → key ≡ keyOf s → Numbered ks key i → i < 51 → IsRunClass s (3 + i)
@@ -169,3 +190,28 @@ reserved-word ks s i q n h =
       high = omega arith;
       word = class-word i 0 s ∙ ap (λ (x : Spelled). x .word) (reserved-entry i h) ∙ sym (ap (λ t. lookUp reserved t (name s)) p ∙ f);
     }
+
+-- ---- some class
+
+-- what is looked up is found at an entry or not at all
+looked-up : (es : List Spelled) (s : List ℕ) (w : Word) → (lookUp es s w ≡ w) ⊎ ((i : ℕ) × (i < length es) × (lookUp es s w ≡ getD es i no-entry .word))
+unfolding lookUp
+looked-up [] s w = inl refl
+looked-up (e ∷ es) s w = go (sameBytes (e .spelling) s) (looked-up es s w)
+  where
+    go : (b : Bool) → (lookUp es s w ≡ w) ⊎ ((i : ℕ) × (i < length es) × (lookUp es s w ≡ getD es i no-entry .word))
+        → (elim b [ true ↦ e .word | false ↦ lookUp es s w ] ≡ w)
+        ⊎ ((i : ℕ) × (i < suc (length es)) × (elim b [ true ↦ e .word | false ↦ lookUp es s w ] ≡ getD (e ∷ es) i no-entry .word))
+    go true n = inr (0, omega arith, refl)
+    go false (inl q) = inl q
+    go false (inr (i, l, q)) = inr (suc i, omega arith, q)
+
+pub some-class : (s : List ℕ) → (c : ℕ) × IsRunClass s c
+unfolding denoted
+some-class s = go (looked-up reserved s (name s))
+  where
+    go : (lookUp reserved s (name s) ≡ name s) ⊎ ((i : ℕ) × (i < length reserved) × (lookUp reserved s (name s) ≡ getD reserved i no-entry .word)) → (c : ℕ) × IsRunClass s c
+    go (inl q) = (1, record { low = omega arith; high = omega arith; word = sym q })
+    go (inr (i, l, q)) =
+        let h : i < 51 = omega (arith, reserved-length) in
+        (3 + i, record { low = omega arith; high = omega arith; word = class-word i 0 s ∙ ap (λ (x : Spelled). x .word) (reserved-entry i h) ∙ sym q })

@@ -2,6 +2,7 @@ pub mod Truths
 pub mod Runs
 pub mod Gaps
 pub mod Spellings
+pub mod Lengths
 pub mod Keys
 pub mod Signs
 pub mod Pieces

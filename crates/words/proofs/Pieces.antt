@@ -1,6 +1,6 @@
 -- Which piece a run or a sign is.
 use mathlib.Core.Path.{_≡_, refl, sym, ap, _∙_}
-use mathlib.Core.Bool.{Bool, true, false, cond, _&&_, true≢false, and-comm}
+use mathlib.Core.Bool.{Bool, true, false, not, cond, _&&_, true≢false, and-comm, and-false}
 use mathlib.Core.List.{List, [], _∷_}
 use Prim.Native.Nat.{ℕ, suc, _+_, _-_, _≤_, _<_}
 use native.Mathlib.Nat.{add-zero}
@@ -14,11 +14,15 @@ use Rattle.paper.specs.Words as W
 use Rattle.paper.specs.Words.{Piece, bytes, reserved, signs, isBlank, isLetter, isDigit, inRun, begins, runOf, parted, valueFrom, numberPiece, namePiece, signPiece, pieceOf}
 use Rattle.words.specs.declared.Word.{Word}
 use Rattle.words.specs.declared.Numeral.{Numeral}
-use Rattle.words.specs.Denoted.{part, folded, entry, denoted, RunEnds, IsNumeral, IsRunClass, signOf, IsSign, IsSignLength, IsPiece, IsNumberAt, IsNameAt, IsWordAt}
+use Rattle.words.specs.Denoted.{part, folded, entry, denoted, RunEnds, IsNumeral, IsRunClass, signOf, IsSign, IsSignLength, IsPiece, IsNumberAt, IsNameAt, classed, StandsFor, IsWordAt}
 use Rattle.words.proofs.Truths.{and-swap, or-middle}
 use Rattle.words.proofs.Runs.{part-length}
 use Rattle.words.proofs.Spellings.{class-word}
 use Rattle.words.proofs.Signs.{signs-fair, sign-some, sign-short, sign-inside, sign-listed}
+
+-- a word that is no name stands for its own class
+pub sole : (P : Word → Type 0) (b : Bool) (t : List ℕ) (r : Word) → eqb (r .class) 1 ≡ false → P r → (c : ℕ) → StandsFor b t r c → P (classed r c)
+sole P b t r q p c s = let e : c ≡ r .class = rw (q, and-false (not b)) at s in rw e p
 
 -- ---- the piece that a run is
 
@@ -39,21 +43,24 @@ module _ (t : List ℕ) (a e : ℕ) (h : a ≤ e) (l : e ≤ length t) where
   pub number-good : (n : Numeral) → IsNumeral (part t a e) n → n .good ≡ true → parted (part t a e) ≡ true
       → IsNumberAt t a e (record { class = 2; at = a; end = e; value = n .value })
   unfolding denoted
-  number-good n d g p m =
-      let k : e - a - 1 ≡ e - suc a = omega arith in
-      let v : n .value ≡ valueFrom 0 (part t a e) = d .value ∙ rw g in
-      record {
-        here = refl;
-        from = h;
-        to = l;
-        moves = λ _. m;
-        some-word = omega arith;
-        known = λ _. omega arith;
-        piece = number-piece n d ∙ rw (g, p, k, v);
-      }
+  number-good n d g p =
+      let v : n .value ≡ valueFrom 0 (part t a e) = d .value ∙ rw g in (
+        refl,
+        λ m.
+            let k : e - a - 1 ≡ e - suc a = omega arith in
+            record {
+              here = refl;
+              from = h;
+              to = l;
+              moves = λ _. m;
+              some-word = omega arith;
+              known = λ _. omega arith;
+              piece = number-piece n d ∙ rw (g, p, k, v);
+            },
+      )
 
   pub number-bad : (n : Numeral) → IsNumeral (part t a e) n → (n .good && parted (part t a e)) ≡ false → IsNumberAt t a e (badAt a)
-  number-bad n d q m = bad-piece t a _ (omega arith) (number-piece n d ∙ rw q)
+  number-bad n d q = (refl, λ m. bad-piece t a _ (omega arith) (number-piece n d ∙ rw q))
 
   name-piece :
       namePiece (part t a e)
@@ -128,7 +135,7 @@ module _ (t : List ℕ) (at : ℕ) (h : at < length t) where
   here-step d i x y b g = piece-step _ _ d i b (rw (← drop-cons t at 0 h) g) x y
 
   pub number-here : (e : ℕ) (r : Word) → inRun (getD t at 0) ≡ true → isDigit (getD t at 0) ≡ true → RunEnds t at e → IsNumberAt t at e r → IsWordAt t at r
-  number-here e r i d u w b g = rw (here-step true true d i b g, ← run-cut e i u) (w (run-moves e i u))
+  number-here e r i d u w b g = rw (here-step true true d i b g, ← run-cut e i u) (w .1 (run-moves e i u))
 
   pub name-here : (e : ℕ) (r : Word) → inRun (getD t at 0) ≡ true → isDigit (getD t at 0) ≡ false → RunEnds t at e → IsNameAt t at e r → IsWordAt t at r
   name-here e r i d u w b g = rw (here-step false true d i b g, ← run-cut e i u) (w (run-moves e i u))

@@ -1,17 +1,17 @@
 -- Parts of a text: runs of letters, digits and underscores, byte by byte.
 use mathlib.Core.Path.{_≡_, refl, sym, ap, _∙_}
-use mathlib.Core.Bool.{Bool, true, false, not, cond, _&&_, _||_, and-true, and-false, or-true, false≢true}
+use mathlib.Core.Bool.{Bool, true, false, not, cond, _&&_, _||_, and-true, and-false, and-assoc, or-true, true≢false, false≢true}
 use mathlib.Core.List.{List, [], _∷_}
 use Prim.Native.Nat.{ℕ, suc, _+_, _*_, _-_, _≤_, _<_}
 use native.Mathlib.Numerals.{add-one}
 use native.Mathlib.Omega.{arith}
-use borrow.Author.Tests.{eqb-true, eqb-false, ne-eqb, le-leb, lt-leb, leb-true, leb-false}
-use lib.Dec.{eqb, leb}
-use lib.ListN.{length, getD, take, drop, length-take, length-drop}
+use borrow.Author.Tests.{eqb-true, eqb-false, eq-eqb, ne-eqb, not-true, not-false, ltb-true, ltb-false, le-leb, lt-leb, leb-true, leb-false}
+use lib.Dec.{eqb, ltb, leb}
+use lib.ListN.{length, getD, take, drop, length-take, length-drop, List·getD-eq-default}
 use lib.Seq.{drop-cons, drop-length, take-all, take-take}
 use Rattle.paper.specs.Words.{between, inRun, isDigit, isUnderscore, runOf, parted, allDigits, valueFrom}
-use Rattle.words.specs.Denoted.{part, RunEnds, NameEnds, IsNumeral}
-use Rattle.words.proofs.Truths.{both}
+use Rattle.words.specs.Denoted.{part, RunEnds, isPart, IsRun, NameEnds, IsNumeral}
+use Rattle.words.proofs.Truths.{both, not-both}
 
 -- how many bytes a part has
 pub part-length : (t : List ℕ) (a e : ℕ) → e ≤ length t → length (part t a e) ≡ e - a
@@ -72,6 +72,55 @@ parted-cons t i e l k = ap parted (part-cons t i e l k) ∙ go (eqb (i + 1) e) r
     go false h =
         let n : i + 1 < e = omega (arith, eqb-false (i + 1) e h) in
         rw (part-cons t (i + 1) e n k)
+
+-- a run ends at once where no byte of one stands
+run-here : (t : List ℕ) (i r : ℕ) → RunEnds t i r → eqb i r ≡ not (inRun (getD t i 0))
+unfolding runOf
+run-here t i r e = go (ltb i (length t)) refl (inRun (getD t i 0)) refl
+  where
+    size : length (runOf (drop i t)) ≡ r - i
+    size = ap length (e .run) ∙ part-length t i r (e .to)
+
+    go : (l : Bool) → ltb i (length t) ≡ l → (b : Bool) → inRun (getD t i 0) ≡ b → eqb i r ≡ not b
+    go true l true h =
+        let s = rw (drop-cons t i 0 (ltb-true i (length t) l), h, runOf) at size in
+        ne-eqb i r (λ q. omega arith)
+    go true l false h =
+        let s = rw (drop-cons t i 0 (ltb-true i (length t) l), h, runOf) at size in
+        eq-eqb i r (omega (arith, e .from))
+    go false l true h = absurd (true≢false (sym h ∙ ap inRun (List·getD-eq-default t 0 (ltb-false i (length t) l))))
+    go false l false h = eq-eqb i r (omega (arith, e .from, e .to, ltb-false i (length t) l))
+
+module _ (t : List ℕ) (i r : ℕ) (e : RunEnds t i r) where
+  pub run-empty : r ≡ i → inRun (getD t i 0) ≡ false
+  run-empty q = not-true _ (sym (run-here t i r e) ∙ eq-eqb i r (sym q))
+
+  pub run-some : (r ≡ i → ⊥) → inRun (getD t i 0) ≡ true
+  run-some n = not-false _ (sym (run-here t i r e) ∙ ne-eqb i r (λ q. n (sym q)))
+
+-- a run from `at` on that is read up to i: where it ends from i on it ends, and it is parted if what is read is good and the rest is parted
+pub record ReadTo (t : List ℕ) (at i : ℕ) (good : Bool) : Type 0 where
+  pub ends : (r : ℕ) → RunEnds t i r → RunEnds t at r
+  pub parts : (r : ℕ) → RunEnds t i r → parted (part t at r) ≡ (good && parted (part t i r))
+
+pub read-none : (t : List ℕ) (at : ℕ) → ReadTo t at at true
+read-none t at = record { ends = λ r e. e; parts = λ r e. refl }
+
+-- one byte more, which spoils the run if it is an underscore and no letter or digit is next
+pub read-more : (t : List ℕ) (at i : ℕ) (g k : Bool) → i < length t → inRun (getD t i 0) ≡ true
+    → k ≡ (g && not (isUnderscore (getD t i 0) && not (isPart (getD t (i + 1) 0)))) → ReadTo t at i g → ReadTo t at (i + 1) k
+read-more t at i g k l h q d =
+    record {
+      ends = λ r e. d .ends r (run-more t i r l h e);
+      parts = λ r e.
+          d .parts r (run-more t i r l h e)
+          ∙ rw (parted-cons t i r (omega (arith, e .from)) (e .to), run-here t (i + 1) r e, not-both (inRun (getD t (i + 1) 0)) (isUnderscore (getD t (i + 1) 0)), q)
+          (sym (and-assoc g _ (parted (part t (i + 1) r))));
+    }
+
+pub read-all : (t : List ℕ) (at i : ℕ) (g : Bool) → ReadTo t at i g → RunEnds t i i → IsRun t at (record { end = i; parted = g })
+unfolding parted
+read-all t at i g k e = record { ends = k .ends i e; parted = sym (k .parts i e ∙ rw (part-none t i) (and-true g)) }
 
 -- ---- a number's value
 

@@ -148,20 +148,20 @@ sign-listed s c h q = go (ltb c 74) refl
 -- ---- bytes that are none
 
 -- the spelling begins with one of the keys
-abbrev keyed : List ℕ → List ℕ → Bool
+abbrev keyed : List (List ℕ) → List ℕ → Bool
 keyed ks [] = false
 keyed ks (c ∷ w) = among ks c
 
-not-begun : (ks w : List ℕ) (a : ℕ) (s : List ℕ) → NoneOf ks a (Unit {0}) → keyed ks w ≡ true → begins w (a ∷ s) ≡ false
+not-begun : (ks : List (List ℕ)) (w : List ℕ) (a : ℕ) (s : List ℕ) → NoneOf ks a (Unit {0}) → keyed ks w ≡ true → begins w (a ∷ s) ≡ false
 unfolding begins
 not-begun ks [] a s n t = absurd (false≢true t)
 not-begun ks (c ∷ w) a s n t =
     rw (ne-eqb c a (λ q. false≢true (sym (none-among ks a (Unit {0}) n) ∙ ap (among ks) (sym q) ∙ t)))
 
-abbrev all-keyed : List ℕ → List Spelled → Bool
+abbrev all-keyed : List (List ℕ) → List Spelled → Bool
 all-keyed ks es = all (λ (e : Spelled). keyed ks (e .spelling)) es
 
-pub no-sign : (ks : List ℕ) (es : List Spelled) (a : ℕ) (s : List ℕ) → all-keyed ks es ≡ true → NoneOf ks a (Unit {0}) → signPiece es (a ∷ s) ≡ W.bad
+pub no-sign : (ks : List (List ℕ)) (es : List Spelled) (a : ℕ) (s : List ℕ) → all-keyed ks es ≡ true → NoneOf ks a (Unit {0}) → signPiece es (a ∷ s) ≡ W.bad
 unfolding signPiece
 no-sign ks [] a s t n = refl
 no-sign ks (e ∷ es) a s t n =

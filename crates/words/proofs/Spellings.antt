@@ -5,12 +5,12 @@ use mathlib.Core.List.{List, [], _∷_, map}
 use Prim.Native.Nat.{ℕ, suc, _+_, _-_, _≤_, _<_}
 use native.Mathlib.Nat.{add-sub-cancel-left}
 use native.Mathlib.Omega.{arith}
-use borrow.Author.Tests.{ltb-true, ltb-false, eqb-true, ne-eqb, le-leb}
+use borrow.Author.Tests.{ltb-true, ltb-false, eqb-true, eqb-false, eq-eqb, ne-eqb, le-leb}
 use lib.Dec.{eqb, ltb}
 use lib.ListN.{length, getD, take, drop, length-map, List·getD-append, List·getD-eq-default, drop-of-length-le}
 use lib.Seq.{drop-cons, take-nil}
 use Rattle.paper.specs.Words.{Spelled, ending, between, inRun, runOf, capital, sameBytes, reserved, signs}
-use Rattle.words.specs.Denoted.{part, folded, nameAt, restAt, entries, entry, denoted}
+use Rattle.words.specs.Denoted.{part, folded, otherCase, nameAt, restAt, entries, entry, denoted}
 use Rattle.words.proofs.Runs.{part-length, in-range}
 
 -- ---- a part of a text in capitals
@@ -34,15 +34,35 @@ run-capital c = go (between 97 122 c) refl
 pub same-run : (x y : ℕ) → eqb (capital x) (capital y) ≡ true → inRun x ≡ inRun y
 same-run x y e = sym (run-capital x) ∙ ap inRun (eqb-true (capital x) (capital y) e) ∙ run-capital y
 
--- bytes that are neither the same nor a letter's case apart
-pub case-apart : (x y : ℕ) → (x ≡ y → ⊥) → (x + 32 ≡ y → ⊥) → (y + 32 ≡ x → ⊥) → eqb (capital x) (capital y) ≡ false
-case-apart x y n u v = go (between 97 122 x) refl (between 97 122 y) refl
+out-of-range : (l u c : ℕ) → between l u c ≡ false → l ≤ c → c ≤ u → ⊥
+out-of-range l u c h p q =
+    let e : between l u c ≡ true = rw (le-leb l c p, le-leb c u q) in
+    true≢false (sym e ∙ h)
+
+-- two tests for the same number
+same-tests : (p q r s : ℕ) → (p ≡ q → r ≡ s) → (r ≡ s → p ≡ q) → eqb p q ≡ eqb r s
+same-tests p q r s f g = go (eqb r s) refl
   where
-    go : (a : Bool) → between 97 122 x ≡ a → (b : Bool) → between 97 122 y ≡ b → eqb (cond a (x - 32) x) (cond b (y - 32) y) ≡ false
-    go true h true k = ne-eqb (x - 32) (y - 32) (λ q. n (omega (arith, in-range 97 122 x h, in-range 97 122 y k)))
-    go true h false k = ne-eqb (x - 32) y (λ q. v (omega (arith, in-range 97 122 x h)))
-    go false h true k = ne-eqb x (y - 32) (λ q. u (omega (arith, in-range 97 122 y k)))
-    go false h false k = ne-eqb x y n
+    go : (b : Bool) → eqb r s ≡ b → eqb p q ≡ b
+    go true e = eq-eqb p q (g (eqb-true r s e))
+    go false e = ne-eqb p q (λ h. eqb-false r s e (f h))
+
+-- bytes that differ are the same in capitals where each is the other's other case
+pub case-apart : (x y : ℕ) → (x ≡ y → ⊥) → eqb (capital x) (capital y) ≡ eqb y (otherCase x)
+case-apart x y n = go (between 97 122 x) refl (between 65 90 x) refl (between 97 122 y) refl
+  where
+    go : (a : Bool) → between 97 122 x ≡ a → (b : Bool) → between 65 90 x ≡ b → (c : Bool) → between 97 122 y ≡ c
+        → eqb (cond a (x - 32) x) (cond c (y - 32) y) ≡ eqb y (cond a (x - 32) (cond b (x + 32) x))
+    go true h b k true l = same-tests (x - 32) (y - 32) y (x - 32)
+        (λ q. absurd (n (omega (arith, in-range 97 122 x h, in-range 97 122 y l))))
+        (λ q. absurd (omega (arith, in-range 97 122 x h, in-range 97 122 y l)))
+    go true h b k false l = same-tests (x - 32) y y (x - 32) sym sym
+    go false h true k true l = same-tests x (y - 32) y (x + 32)
+        (λ q. omega (arith, in-range 97 122 y l))
+        (λ q. omega arith)
+    go false h false k true l = same-tests x (y - 32) y x (λ q. absurd (out-of-range 65 90 x k (omega (arith, in-range 97 122 y l)) (omega (arith, in-range 97 122 y l)))) (λ q. absurd (n (sym q)))
+    go false h true k false l = same-tests x y y (x + 32) (λ q. absurd (n q)) (λ q. absurd (out-of-range 97 122 y l (omega (arith, in-range 65 90 x k)) (omega (arith, in-range 65 90 x k))))
+    go false h false k false l = same-tests x y y x sym sym
 
 -- no run has a byte beyond the text
 pub in-text : (t : List ℕ) (p : ℕ) → inRun (getD t p 0) ≡ true → p < length t

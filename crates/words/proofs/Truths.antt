@@ -1,12 +1,13 @@
 -- Tests taken together, a test of all entries of a list, and a number looked for in a list.
-use mathlib.Core.Path.{_≡_, refl}
-use mathlib.Core.Bool.{Bool, true, false, _&&_, _||_, true≢false, and-comm, and-eq-true-iff}
+use mathlib.Core.Path.{_≡_, refl, sym, subst}
+use mathlib.Core.Bool.{Bool, true, false, not, _&&_, _||_, true≢false, and-comm, and-eq-true-iff}
 use mathlib.Core.List.{List, [], _∷_}
 use Prim.Native.Nat.{ℕ, zero, suc, _<_}
 use native.Mathlib.Omega.{arith}
-use borrow.Author.Tests.{ne-eqb}
-use lib.Dec.{eqb}
 use lib.ListN.{length, getD}
+use lib.Dec.{T}
+use mir.Val.{hasKey}
+use types.Run.{OneOf, hit}
 use Rattle.words.specs.Keys.{NoneOf}
 
 -- two tests that hold together hold
@@ -24,6 +25,12 @@ or-middle true y z h = absurd (true≢false h)
 or-middle false true z h = absurd (true≢false h)
 or-middle false false z h = refl
 
+-- a test that fails or another that holds: not the one without the other
+pub not-both : (x y : Bool) → (not x || y) ≡ not (x && not y)
+not-both true true = refl
+not-both true false = refl
+not-both false y = refl
+
 module _ {A : Type 0} (p : A → Bool) where
   abbrev pub all : List A → Bool
   all [] = true
@@ -36,15 +43,22 @@ module _ {A : Type 0} (p : A → Bool) where
 
 -- ---- a number among the keys of a `match`
 
-abbrev pub among : List ℕ → ℕ → Bool
+abbrev pub among : List (List ℕ) → ℕ → Bool
 among [] a = false
-among (k ∷ ks) a = eqb a k || among ks a
+among (ks ∷ arms) a = hasKey ks a || among arms a
 
-besides : (ks : List ℕ) (a : ℕ) (N : Type 0) → NoneOf ks a N → N
+besides : (arms : List (List ℕ)) (a : ℕ) (N : Type 0) → NoneOf arms a N → N
 besides [] a N n = n
-besides (k ∷ ks) a N n = besides ks a (N × (a ≡ k → ⊥)) n .0
+besides (ks ∷ arms) a N n = besides arms a (N × (OneOf ks a → ⊥)) n .0
+
+no-key : (ks : List ℕ) (a : ℕ) → (OneOf ks a → ⊥) → hasKey ks a ≡ false
+no-key ks a n = go (hasKey ks a) refl
+  where
+    go : (b : Bool) → hasKey ks a ≡ b → b ≡ false
+    go true h = absurd (n (hit ks a (subst T (sym h) tt)))
+    go false h = refl
 
 -- what the last arm knows is that the number isn't among them
-pub none-among : (ks : List ℕ) (a : ℕ) (N : Type 0) → NoneOf ks a N → among ks a ≡ false
+pub none-among : (arms : List (List ℕ)) (a : ℕ) (N : Type 0) → NoneOf arms a N → among arms a ≡ false
 none-among [] a N n = refl
-none-among (k ∷ ks) a N n = rw (ne-eqb a k (besides ks a (N × (a ≡ k → ⊥)) n .1)) (none-among ks a (N × (a ≡ k → ⊥)) n)
+none-among (ks ∷ arms) a N n = rw (no-key ks a (besides arms a (N × (OneOf ks a → ⊥)) n .1)) (none-among arms a (N × (OneOf ks a → ⊥)) n)

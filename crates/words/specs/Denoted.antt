@@ -1,6 +1,6 @@
 -- What the answers of this crate stand for, in the words of `paper`.
 use mathlib.Core.Path.{_≡_}
-use mathlib.Core.Bool.{Bool, true, false, cond, _&&_}
+use mathlib.Core.Bool.{Bool, true, false, not, cond, _&&_, _||_}
 use mathlib.Core.Option.{Option, none, some}
 use mathlib.Core.List.{List, [], _∷_, _++_, map}
 use Prim.Native.Nat.{ℕ, suc, _+_, _-_, _≤_, _<_}
@@ -9,9 +9,10 @@ use lib.ListN.{length, getD, take, drop}
 use Rattle.paper.specs.declared.Why.the-variants.{NoWord}
 use Rattle.paper.specs.Refusals.{Answer, refused, given, _>>=_}
 use Rattle.paper.specs.Words as W
-use Rattle.paper.specs.Words.{Token, Spelled, Piece, bytes, reserved, signs, sameBytes, inRun, isBlank, begins, closed, runOf, parted, allDigits, valueFrom, capital, lookUp, numberPiece, namePiece, signPiece, pieceOf, wordsFrom, wordsOf}
+use Rattle.paper.specs.Words.{Token, Spelled, Piece, bytes, reserved, signs, sameBytes, between, inRun, isUnderscore, isBlank, begins, closed, runOf, parted, allDigits, valueFrom, capital, lookUp, numberPiece, namePiece, signPiece, pieceOf, wordsFrom, wordsOf}
 use Rattle.words.specs.declared.Word.{Word}
 use Rattle.words.specs.declared.Gap.{Gap}
+use Rattle.words.specs.declared.Run.{Run}
 use Rattle.words.specs.declared.Numeral.{Numeral}
 use Rattle.words.specs.declared.FirstBad.{FirstBad}
 use Rattle.words.specs.declared.FirstBad.the-variants.{At, Nowhere}
@@ -22,6 +23,10 @@ part t a e = take (e - a) (drop a t)
 
 abbrev pub folded : List ℕ → ℕ → ℕ → List ℕ
 folded t a e = map capital (part t a e)
+
+-- a letter in its other case
+abbrev pub otherCase : ℕ → ℕ
+otherCase c = cond (between 97 122 c) (c - 32) (cond (between 65 90 c) (c + 32) c)
 
 -- the name at a place: the run there, at most 24 bytes of it; and in capitals
 abbrev pub spelledAt : List ℕ → ℕ → List ℕ
@@ -40,20 +45,23 @@ pub record NameEnds (t : List ℕ) (at r : ℕ) : Type 0 where
   pub short : r - at ≤ 24
   pub name : spelledAt t at ≡ part t at r
 
--- r bytes lie behind a and b in a text of n, 24 or up to its end
-pub record IsRoom (n a b r : ℕ) : Type 0 where
+-- r bytes lie behind a place in a text of n, 24 or up to its end
+pub record IsRoom (n at r : ℕ) : Type 0 where
   pub most : r ≤ 24
-  pub inside-a : a + r ≤ n
-  pub inside-b : b + r ≤ n
-  pub full : r < 24 → a + r < n → b + r ≡ n
+  pub inside : at + r ≤ n
+  pub full : r < 24 → at + r ≡ n
 
--- the names at a and b are the same where their rests behind r bytes are; and those differ in their first bytes or one has none
-pub record Shares (t : List ℕ) (a b r : ℕ) : Type 0 where
-  pub most : r ≤ 24
-  pub inside-a : a + r ≤ length t
-  pub inside-b : b + r ≤ length t
-  pub same : sameBytes (nameAt t a) (nameAt t b) ≡ sameBytes (restAt t a r) (restAt t b r)
-  pub apart : r < 24 → inRun (getD t (a + r) 0) ≡ true → inRun (getD t (b + r) 0) ≡ true → capital (getD t (a + r) 0) ≡ capital (getD t (b + r) 0) → ⊥
+-- the name at a has n bytes
+pub record HasLength (t : List ℕ) (a n : ℕ) : Type 0 where
+  pub most : n ≤ 24
+  pub inside : 0 < n → a + n ≤ length t
+  pub all : (i : ℕ) → i < n → inRun (getD t (a + i) 0) ≡ true
+  pub behind : n < 24 → inRun (getD t (a + n) 0) ≡ false
+
+-- the last byte of the name at a, which has n, tells that the one at b is another
+pub record EndsAlike (t : List ℕ) (a n b : ℕ) (r : Bool) : Type 0 where
+  pub last : r ≡ (eqb n 0 || eqb (capital (getD t (a + (n - 1)) 0)) (capital (getD t (b + (n - 1)) 0)))
+  pub apart : r ≡ false → sameBytes (nameAt t a) (nameAt t b) ≡ false
 
 -- ---- classes
 
@@ -99,6 +107,14 @@ pub record RunEnds (t : List ℕ) (at r : ℕ) : Type 0 where
   pub to : r ≤ length t
   pub run : runOf (drop at t) ≡ part t at r
 
+-- a letter or a digit
+abbrev pub isPart : ℕ → Bool
+isPart c = inRun c && not (isUnderscore c)
+
+pub record IsRun (t : List ℕ) (at : ℕ) (r : Run) : Type 0 where
+  pub ends : RunEnds t at (r .end)
+  pub parted : r .parted ≡ parted (part t at (r .end))
+
 pub record IsNumeral (s : List ℕ) (r : Numeral) : Type 0 where
   pub good : r .good ≡ (allDigits s && leb (valueFrom 0 s) 4294967295)
   pub value : r .value ≡ cond (r .good) (valueFrom 0 s) 0
@@ -107,6 +123,17 @@ pub record IsRunClass (s : List ℕ) (c : ℕ) : Type 0 where
   pub low : 0 < c
   pub high : c < 54
   pub word : denoted c s 0 ≡ lookUp reserved s (W.name s)
+
+-- the answer k stands for the class c of the run s: for itself, but a name where reserved words aren't told for whatever class the run has
+abbrev pub StandsBy : List ℕ → ℕ → ℕ → Bool → Type 0
+StandsBy s k c true = IsRunClass s c
+StandsBy s k c false = c ≡ k
+
+abbrev pub Stands : Bool → List ℕ → ℕ → ℕ → Type 0
+Stands told s k c = StandsBy s k c (not told && eqb k 1)
+
+abbrev pub IsNameClass : Bool → List ℕ → ℕ → Type 0
+IsNameClass told s k = (c : ℕ) → Stands told s k c → IsRunClass s c
 
 -- what a class says of a sign, b being the byte behind its first, or 0
 abbrev pub signOf : ℕ → Piece
@@ -135,7 +162,7 @@ pub record IsPiece (t : List ℕ) (at : ℕ) (p : Piece) (r : Word) : Type 0 whe
   pub piece : p ≡ pieceIn t r
 
 abbrev pub IsNumberAt : List ℕ → ℕ → ℕ → Word → Type 0
-IsNumberAt t a e r = a < e → IsPiece t a (numberPiece (part t a e)) r
+IsNumberAt t a e r = (eqb (r .class) 1 ≡ false) × (a < e → IsPiece t a (numberPiece (part t a e)) r)
 
 abbrev pub IsNameAt : List ℕ → ℕ → ℕ → Word → Type 0
 IsNameAt t a e r = a < e → IsPiece t a (namePiece (part t a e)) r
@@ -145,6 +172,21 @@ abbrev pub IsWordAt : List ℕ → ℕ → Word → Type 0
 IsWordAt t at r =
     isBlank (getD t at 0) ≡ false → begins (bytes "(*") (drop at t) ≡ false
     → IsPiece t at (pieceOf (getD t at 0) (drop (suc at) t)) r
+
+-- and no run does
+abbrev pub IsSignAt : List ℕ → ℕ → Word → Type 0
+IsSignAt t at r = (eqb (r .class) 1 ≡ false) × (inRun (getD t at 0) ≡ false → IsWordAt t at r)
+
+-- a word with the class c instead of its own
+abbrev pub classed : Word → ℕ → Word
+classed r c = record { class = c; at = r .at; end = r .end; value = r .value }
+
+abbrev pub StandsFor : Bool → List ℕ → Word → ℕ → Type 0
+StandsFor told t r c = Stands told (folded t (r .at) (r .end)) (r .class) c
+
+-- with each class that it stands for, it is the word there
+abbrev pub IsToldAt : Bool → List ℕ → ℕ → Word → Type 0
+IsToldAt told t at r = (c : ℕ) → StandsFor told t r c → IsWordAt t at (classed r c)
 
 -- the words from a place on, where the first is r
 abbrev pub answered : List ℕ → Word → Answer (List Token)
@@ -170,6 +212,10 @@ pub record IsWord (t : List ℕ) (at : ℕ) (r : Word) : Type 0 where
   pub last : eqb (r .class) 0 ≡ true → r .at ≡ length t
   -- no class stands beyond the lists
   pub known : eqb (r .class) 255 ≡ false → r .class < 74
+
+-- with each class that it stands for, it is the next word
+abbrev pub IsTold : Bool → List ℕ → ℕ → Word → Type 0
+IsTold told t at r = (c : ℕ) → StandsFor told t r c → IsWord t at (classed r c)
 
 -- refusal 2, or none
 abbrev pub IsFirstBad : List ℕ → FirstBad → Type 0

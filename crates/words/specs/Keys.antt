@@ -1,10 +1,11 @@
 -- Runs as numbers, by which the code knows the reserved words.
 use mathlib.Core.Path.{_≡_}
 use mathlib.Core.Bool.{Bool, true, false, cond}
-use mathlib.Core.List.{List, [], _∷_, _++_}
-use Prim.Native.Nat.{ℕ, _+_, _-_, _*_}
+use mathlib.Core.List.{List, [], _∷_, _++_, map}
+use Prim.Native.Nat.{ℕ, _+_, _-_, _*_, _%_}
 use lib.Dec.{ltb}
-use lib.ListN.{getD, take, drop}
+use lib.ListN.{length, getD, take, drop}
+use types.Run.{OneOf}
 use Rattle.paper.specs.Words.{between, isUnderscore}
 
 -- A to Z are 1 to 26, the underscore 27; every other byte is 28, and in no reserved word
@@ -38,15 +39,38 @@ keywordKeys = take 20 keys ++ drop 44 keys
 abbrev pub operandKeys : List ℕ
 operandKeys = take 24 (drop 20 keys)
 
--- a is none of the keys of a `match`, as the last arm knows it, besides N
-abbrev pub NoneOf : List ℕ → ℕ → Type 0 → Type 0
+-- a is none of the keys of the arms of a `match`, as the last arm knows it, besides N
+abbrev pub NoneOf : List (List ℕ) → ℕ → Type 0 → Type 0
 NoneOf [] a N = N
-NoneOf (k ∷ ks) a N = NoneOf ks a (N × (a ≡ k → ⊥))
+NoneOf (ks ∷ arms) a N = NoneOf arms a (N × (OneOf ks a → ⊥))
+
+-- an arm for each of ks
+abbrev pub singly : List ℕ → List (List ℕ)
+singly ks = map (λ k. k ∷ []) ks
 
 -- i is the number of the word with this key, or no number where none of ks is this key
 abbrev pub NumberedBy : List ℕ → ℕ → ℕ → Bool → Type 0
 NumberedBy ks key i true = key ≡ getD keys i 0
-NumberedBy ks key i false = NoneOf ks key (Unit {0})
+NumberedBy ks key i false = NoneOf (singly ks) key (Unit {0})
 
 abbrev pub Numbered : List ℕ → ℕ → ℕ → Type 0
 Numbered ks key i = NumberedBy ks key i (ltb i 51)
+
+-- ---- which runs can't be reserved
+
+-- the length and the first byte of a run as one number, the same for a letter of either case
+abbrev pub formOf : List ℕ → ℕ
+formOf s = length s * 32 + getD s 0 0 % 32
+
+-- the forms of the reserved words, letter by letter in the order of the code
+abbrev pub forms : List (List ℕ)
+forms =
+    (97 ∷ 161 ∷ []) ∷ (66 ∷ 130 ∷ []) ∷ (131 ∷ []) ∷ (68 ∷ 132 ∷ 356 ∷ 388 ∷ 420 ∷ [])
+    ∷ (133 ∷ 165 ∷ 197 ∷ 229 ∷ 261 ∷ 293 ∷ 325 ∷ 357 ∷ []) ∷ (102 ∷ 166 ∷ []) ∷ (73 ∷ 105 ∷ 361 ∷ 393 ∷ [])
+    ∷ (109 ∷ []) ∷ (110 ∷ []) ∷ (79 ∷ []) ∷ (240 ∷ []) ∷ (210 ∷ []) ∷ (84 ∷ 148 ∷ [])
+    ∷ (149 ∷ 181 ∷ 373 ∷ 405 ∷ 437 ∷ []) ∷ (118 ∷ 310 ∷ 342 ∷ []) ∷ (183 ∷ []) ∷ (120 ∷ []) ∷ []
+
+-- no is said only of what is none of the keys of the arms
+abbrev pub Excludes : List (List ℕ) → ℕ → Bool → Type 0
+Excludes arms a true = Unit {0}
+Excludes arms a false = NoneOf arms a (Unit {0})

@@ -1,12 +1,12 @@
 // One word at a place of a text, as document 01 cuts words: blanks and comments skipped, the longest run or sign taken.
 ghost use mathlib.Core.Path.{_≡_};
-ghost use Prim.Native.Nat.{_+_, _-_, _*_, _≤_, _<_};
+ghost use Prim.Native.Nat.{_+_, _-_, _*_, _%_, _≤_, _<_};
 ghost use mathlib.Core.Bool.{Bool, true, false};
 ghost use lib.Dec.{eqb};
 ghost use lib.ListN.{length, getD, drop};
-ghost use Rattle.paper.specs.Words.{isBlank, isDigit, inRun, isUnderscore, capital, parted, allDigits, sameBytes};
-ghost use Rattle.words.specs.Keys.{keyDigit, keyOf, keywordKeys, operandKeys, Numbered};
-ghost use Rattle.words.specs.Denoted.{part, folded, spelledAt, nameAt, IsRoom, Shares, NameEnds, CommentEnds, Skips, RunEnds, IsNumeral, IsRunClass, IsSign, IsSignLength, IsNumberAt, IsNameAt, IsWordAt, IsWord, IsFirstBad};
+ghost use Rattle.paper.specs.Words.{isBlank, isDigit, inRun, capital, sameBytes};
+ghost use Rattle.words.specs.Keys.{keyDigit, keyOf, keywordKeys, operandKeys, Numbered, forms, Excludes};
+ghost use Rattle.words.specs.Denoted.{part, folded, otherCase, spelledAt, nameAt, IsRoom, HasLength, EndsAlike, NameEnds, CommentEnds, Skips, isPart, IsRun, IsNumeral, IsRunClass, IsNameClass, IsSign, IsSignLength, IsNumberAt, IsSignAt, IsToldAt, IsTold, IsWord, IsFirstBad};
 
 pub mod held;
 
@@ -38,6 +38,12 @@ pub struct Word {
 pub struct Gap {
     pub at: usize,
     pub open: bool,
+}
+
+// A run: where it ends, and whether its underscores are placed well, each alone and before a letter or a digit.
+pub struct Run {
+    pub end: usize,
+    pub parted: bool,
 }
 
 // The value of a run of digits, if it is a number.
@@ -75,12 +81,6 @@ fn in_run(b: u8) -> bool
         return b <= 90 || b == 95;
     }
     digit(b)
-}
-
-fn folded_byte(b: u8) -> u8
-    ensures { λ r. ⌜ r ≡ capital b ⌝ }
-{
-    if 97 <= b && b <= 122 { b - 32 } else { b }
 }
 
 // The place behind the `*)` that closes a comment whose inside starts at `at`; beyond the text where none does.
@@ -124,32 +124,44 @@ fn skip(text: &[u8], at: usize) -> Gap
     Gap { at: n, open: false }
 }
 
-// The end of the run of letters, digits and underscores that `at` lies in.
-fn run_end(text: &[u8], at: usize) -> usize
+// The byte at a place, 0 beyond the text.
+fn byte_at(text: &[u8], at: usize) -> u8
+    ensures { λ r. ⌜ r ≡ getD (now (text .entry)) at 0 ⌝ }
+{
+    if at < text.len() { text[at] } else { 0 }
+}
+
+// Whether a letter or a digit stands behind a place.
+fn parts(text: &[u8], at: usize) -> bool
+    requires { ⌜ at < length (now text) ⌝ }
+    ensures { λ r. ⌜ r ≡ isPart (getD (now (text .entry)) (at + 1) 0) ⌝ }
+{
+    let b = byte_at(text, at + 1);
+    in_run(b) && b != 95
+}
+
+// The run of letters, digits and underscores that starts at `at`. What stands behind an underscore is looked at there only.
+fn run_at(text: &[u8], at: usize) -> Run
     requires { ⌜ at ≤ length (now text) ⌝ }
-    ensures { λ r. ⌜ RunEnds (now (text .entry)) at r ⌝ }
+    ensures { λ r. ⌜ IsRun (now (text .entry)) at r ⌝ }
 {
     let n = text.len();
     let mut i = at;
-    while i < n && in_run(text[i]) {
-        i += 1;
-    }
-    i
-}
-
-// No two underscores together, none at the end.
-fn is_parted(text: &[u8], at: usize, end: usize) -> bool
-    requires { ⌜ (at ≤ end) × (end ≤ length (now text)) ⌝ }
-    ensures { λ r. ⌜ r ≡ parted (part (now (text .entry)) at end) ⌝ }
-{
-    let mut i = at;
-    while i < end {
-        if text[i] == 95 && (i + 1 == end || text[i + 1] == 95) {
-            return false;
+    let mut parted = true;
+    while i < n {
+        let b = text[i];
+        if b == 95 {
+            if !parts(text, i) {
+                parted = false;
+            }
+        } else {
+            if !in_run(b) {
+                return Run { end: i, parted };
+            }
         }
         i += 1;
     }
-    true
+    Run { end: i, parted }
 }
 
 // A run of digits and underscores as a number of at most 4,294,967,295.
@@ -191,11 +203,13 @@ fn numeral_of(text: &[u8], at: usize, end: usize) -> Numeral
 fn key_digit(b: u8) -> u64
     ensures { λ r. ⌜ r ≡ keyDigit (capital b) ⌝ }
 {
-    let c = folded_byte(b);
-    if 65 <= c && c <= 90 {
-        return c as u64 - 64;
+    if 97 <= b {
+        return if b <= 122 { b as u64 - 96 } else { 28 };
     }
-    if c == 95 { 27 } else { 28 }
+    if 65 <= b && b <= 90 {
+        return b as u64 - 64;
+    }
+    if b == 95 { 27 } else { 28 }
 }
 
 // The key of a run: its digits to the base 29, the first the lowest. No other run has a reserved word's key.
@@ -281,6 +295,33 @@ fn operand_number(key: u64) -> u8
     }
 }
 
+// Whether some reserved word begins with this letter, in either case, and has this length. Most names are told from them so.
+fn may_be_reserved(first: u8, n: usize) -> bool
+    requires { ⌜ n ≤ 13 ⌝ }
+    ensures { λ r. ⌜ Excludes forms (n * 32 + first % 32) r ⌝ }
+{
+    match n * 32 + (first % 32) as usize {
+        97 | 161 => true, // AND, ARRAY
+        66 | 130 => true, // BY, BOOL
+        131 => true, // CASE
+        68 | 132 | 356 | 388 | 420 => true, // DO, DINT, three conversions
+        133 | 165 | 197 | 229 | 261 | 293 | 325 | 357 => true, // ELSE, EXIT, ELSIF, END_IF to END_PROGRAM
+        102 | 166 => true, // FOR, FALSE
+        73 | 105 | 361 | 393 => true, // IF, INT, three conversions
+        109 => true, // MOD
+        110 => true, // NOT
+        79 => true, // OF, OR
+        240 => true, // PROGRAM
+        210 => true, // REPEAT, RETURN
+        84 | 148 => true, // TO, THEN, TRUE
+        149 | 181 | 373 | 405 | 437 => true, // UINT, UDINT, UNTIL, six conversions
+        118 | 310 | 342 => true, // VAR, VAR_INPUT, VAR_OUTPUT
+        183 => true, // WHILE
+        120 => true, // XOR
+        _ => false,
+    }
+}
+
 // The class of a run that is a name or a reserved word. No reserved word has one byte or more than 13.
 fn run_class(text: &[u8], at: usize, end: usize) -> u8
     requires { ⌜ (at ≤ end) × (end ≤ length (now text)) ⌝ }
@@ -288,6 +329,9 @@ fn run_class(text: &[u8], at: usize, end: usize) -> u8
 {
     let n = end - at;
     if n < 2 || 13 < n {
+        return NAME;
+    }
+    if !may_be_reserved(text[at], n) {
         return NAME;
     }
     let key = key_of(text, at, end);
@@ -299,11 +343,12 @@ fn run_class(text: &[u8], at: usize, end: usize) -> u8
     if j < 51 { RESERVED + j } else { NAME }
 }
 
-// The byte at a place, 0 beyond the text.
-fn byte_at(text: &[u8], at: usize) -> u8
-    ensures { λ r. ⌜ r ≡ getD (now (text .entry)) at 0 ⌝ }
+// The same where reserved words are to be told from names, else NAME.
+fn name_class(text: &[u8], at: usize, end: usize, told: bool) -> u8
+    requires { ⌜ (at ≤ end) × (end ≤ length (now text)) ⌝ }
+    ensures { λ r. ⌜ IsNameClass told (folded (now (text .entry)) at end) r ⌝ }
 {
-    if at < text.len() { text[at] } else { 0 }
+    if told { run_class(text, at, end) } else { NAME }
 }
 
 // The class of the sign that starts with the bytes `a` and `b`, by its number in the list of signs.
@@ -354,12 +399,13 @@ fn bad(at: usize) -> Word
 }
 
 // The word of a run that starts with a digit.
-fn number_at(text: &[u8], at: usize, end: usize) -> Word
-    requires { ⌜ (at ≤ end) × (end ≤ length (now text)) ⌝ }
-    ensures { λ r. ⌜ IsNumberAt (now (text .entry)) at end r ⌝ }
+fn number_at(text: &[u8], at: usize, run: Run) -> Word
+    requires { ⌜ IsRun (now text) at run ⌝ }
+    ensures { λ r. ⌜ IsNumberAt (now (text .entry)) at (run .end) r ⌝ }
 {
+    let end = run.end;
     let n = numeral_of(text, at, end);
-    if n.good && is_parted(text, at, end) {
+    if n.good && run.parted {
         Word {
             class: NUMBER,
             at,
@@ -371,37 +417,12 @@ fn number_at(text: &[u8], at: usize, end: usize) -> Word
     }
 }
 
-// The word of any other run.
-fn name_at(text: &[u8], at: usize, end: usize) -> Word
-    requires { ⌜ (at ≤ end) × (end ≤ length (now text)) ⌝ }
-    ensures { λ r. ⌜ IsNameAt (now (text .entry)) at end r ⌝ }
-{
-    if end - at <= 24 && is_parted(text, at, end) {
-        Word {
-            class: run_class(text, at, end),
-            at,
-            end,
-            value: 0,
-        }
-    } else {
-        bad(at)
-    }
-}
-
-// The word that starts at a place inside the text where no blank and no comment does.
-fn word_at(text: &[u8], at: usize) -> Word
+// The word where no run starts.
+fn sign_at(text: &[u8], at: usize) -> Word
     requires { ⌜ at < length (now text) ⌝ }
-    ensures { λ r. ⌜ IsWordAt (now (text .entry)) at r ⌝ }
+    ensures { λ r. ⌜ IsSignAt (now (text .entry)) at r ⌝ }
 {
-    let b = text[at];
-    if in_run(b) {
-        let end = run_end(text, at);
-        if digit(b) {
-            return number_at(text, at, end);
-        }
-        return name_at(text, at, end);
-    }
-    let class = sign_class(b, byte_at(text, at + 1));
+    let class = sign_class(text[at], byte_at(text, at + 1));
     if class == BAD {
         return bad(at);
     }
@@ -413,10 +434,34 @@ fn word_at(text: &[u8], at: usize) -> Word
     }
 }
 
-// The next word from a place on: ENDING at the text's length where none is left, BAD where none can be read. A reader's work.
-fn word_from(text: &[u8], at: usize) -> Word
+// The word that starts at a place inside the text where no blank and no comment does; if not `told`, a reserved word is a NAME.
+fn word_at(text: &[u8], at: usize, told: bool) -> Word
+    requires { ⌜ at < length (now text) ⌝ }
+    ensures { λ r. ⌜ IsToldAt told (now (text .entry)) at r ⌝ }
+{
+    let run = run_at(text, at);
+    let end = run.end;
+    if end == at {
+        return sign_at(text, at);
+    }
+    if digit(text[at]) {
+        return number_at(text, at, run);
+    }
+    if end - at <= 24 && run.parted {
+        return Word {
+            class: name_class(text, at, end, told),
+            at,
+            end,
+            value: 0,
+        };
+    }
+    bad(at)
+}
+
+// The next word from a place on, told like that: ENDING at the text's length where none is left, BAD where none can be read.
+fn next_from(text: &[u8], at: usize, told: bool) -> Word
     requires { ⌜ (at ≤ length (now text)) × (length (now text) ≤ 8192) ⌝ }
-    ensures { λ r. ⌜ IsWord (now (text .entry)) at r ⌝ }
+    ensures { λ r. ⌜ IsTold told (now (text .entry)) at r ⌝ }
 {
     let g = skip(text, at);
     let i = g.at;
@@ -424,7 +469,7 @@ fn word_from(text: &[u8], at: usize) -> Word
         return bad(i);
     }
     if i < text.len() {
-        return word_at(text, i);
+        return word_at(text, i, told);
     }
     Word {
         class: ENDING,
@@ -432,6 +477,14 @@ fn word_from(text: &[u8], at: usize) -> Word
         end: i,
         value: 0,
     }
+}
+
+// The same with reserved words told from names. A reader's work.
+fn word_from(text: &[u8], at: usize) -> Word
+    requires { ⌜ (at ≤ length (now text)) × (length (now text) ≤ 8192) ⌝ }
+    ensures { λ r. ⌜ IsWord (now (text .entry)) at r ⌝ }
+{
+    next_from(text, at, true)
 }
 
 // The same out of a reader, from which every word comes; for those who hold a text and a place.
@@ -442,14 +495,14 @@ pub fn next_word(text: &[u8], at: usize) -> Word
     word_of(reader_at(text, at))
 }
 
-// The place of the first bad word of a text.
+// The place of the first bad word of a text. Which words are reserved doesn't matter to it.
 pub fn first_bad(text: &[u8]) -> FirstBad
     requires { ⌜ length (now text) ≤ 8192 ⌝ }
     ensures { λ r. ⌜ IsFirstBad (now (text .entry)) r ⌝ }
 {
     let mut at: usize = 0;
     loop {
-        let w = next_word(text, at);
+        let w = next_from(text, at, false);
         if w.class == BAD {
             return FirstBad::At(w.at);
         }
@@ -473,7 +526,8 @@ fn name_end(text: &[u8], at: usize) -> usize
     requires { ⌜ at ≤ length (now text) ⌝ }
     ensures { λ r. ⌜ NameEnds (now (text .entry)) at r ⌝ }
 {
-    let e = run_end(text, at);
+    let run = run_at(text, at);
+    let e = run.end;
     if e - at <= 24 { e } else { at + 24 }
 }
 
@@ -486,53 +540,72 @@ pub fn name_of(text: &[u8], at: usize) -> &[u8]
     &text[a..e]
 }
 
-// Whether two bytes are the same, case of letters aside. Only bytes that lie 32 apart can be a letter in both cases.
+// A letter in its other case, any other byte as it is.
+fn other_case(x: u8) -> u8
+    ensures { λ r. ⌜ r ≡ otherCase x ⌝ }
+{
+    if 97 <= x && x <= 122 {
+        return x - 32;
+    }
+    if 65 <= x && x <= 90 { x + 32 } else { x }
+}
+
+// Whether two bytes are the same, case of letters aside.
 fn same_byte(x: u8, y: u8) -> bool
     ensures { λ r. ⌜ r ≡ eqb (capital x) (capital y) ⌝ }
 {
-    let d = if x < y { y - x } else { x - y };
-    d == 0 || d == 32 && folded_byte(x) == folded_byte(y)
+    x == y || y == other_case(x)
 }
 
-// How many bytes the names at two places can have before the text ends behind the later place.
-fn room(text: &[u8], a: usize, b: usize) -> usize
-    requires { ⌜ (a ≤ length (now text)) × (b ≤ length (now text)) ⌝ }
-    ensures { λ r. ⌜ IsRoom (length (now (text .entry))) a b r ⌝ }
+// How many bytes a name at a place can have before the text ends.
+fn room(text: &[u8], at: usize) -> usize
+    requires { ⌜ at ≤ length (now text) ⌝ }
+    ensures { λ r. ⌜ IsRoom (length (now (text .entry))) at r ⌝ }
 {
-    let n = text.len() - if a < b { b } else { a };
+    let n = text.len() - at;
     if n < 24 { n } else { 24 }
 }
 
-// How many bytes the names at two places have in common, case of letters aside, up to the first where they differ or end.
-fn shared(text: &[u8], a: usize, b: usize) -> usize
-    requires { ⌜ (a ≤ length (now text)) × (b ≤ length (now text)) ⌝ }
-    ensures { λ r. ⌜ Shares (now (text .entry)) a b r ⌝ }
+// How many bytes the name at a place has.
+pub fn name_length(text: &[u8], at: usize) -> usize
+    ensures { λ r. ⌜ HasLength (now (text .entry)) at r ⌝ }
 {
-    let n = room(text, a, b);
+    if text.len() <= at {
+        return 0;
+    }
+    let m = room(text, at);
+    let mut n = 0;
+    while n < m && in_run(text[at + n]) {
+        n += 1;
+    }
+    n
+}
+
+// Whether the name at `b` can be the one of `n` bytes at `a`: it has the same last of them. Of numbered names few have.
+pub fn ends_alike(text: &[u8], a: usize, n: usize, b: usize) -> bool
+    requires { ⌜ HasLength (now text) a n × (b < 65536) ⌝ }
+    ensures { λ r. ⌜ EndsAlike (now (text .entry)) a n b r ⌝ }
+{
+    if n == 0 {
+        return true;
+    }
+    same_byte(text[a + (n - 1)], byte_at(text, b + (n - 1)))
+}
+
+// Whether the names at two places are the same, case of letters aside. The first has `n` bytes.
+pub fn same_name(text: &[u8], a: usize, n: usize, b: usize) -> bool
+    requires { ⌜ HasLength (now text) a n × (b < 65536) ⌝ }
+    ensures { λ r. ⌜ r ≡ sameBytes (nameAt (now (text .entry)) a) (nameAt (now (text .entry)) b) ⌝ }
+{
+    if text.len() < b + n {
+        return n == 0;
+    }
     let mut i = 0;
-    while i < n && same_byte(text[a + i], text[b + i]) && in_run(text[a + i]) {
+    while i < n {
+        if !same_byte(text[a + i], text[b + i]) {
+            return false;
+        }
         i += 1;
     }
-    i
-}
-
-// Whether the names at two places inside the text are the same: they end together, or both go on for 24 bytes.
-fn same_from(text: &[u8], a: usize, b: usize) -> bool
-    requires { ⌜ (a ≤ length (now text)) × (b ≤ length (now text)) ⌝ }
-    ensures { λ r. ⌜ r ≡ sameBytes (nameAt (now (text .entry)) a) (nameAt (now (text .entry)) b) ⌝ }
-{
-    let i = shared(text, a, b);
-    i == 24 || !in_run(byte_at(text, a + i)) && !in_run(byte_at(text, b + i))
-}
-
-// Whether the names at two places are the same, case of letters aside. Most that differ do in their first bytes.
-pub fn same_name(text: &[u8], a: usize, b: usize) -> bool
-    ensures { λ r. ⌜ r ≡ sameBytes (nameAt (now (text .entry)) a) (nameAt (now (text .entry)) b) ⌝ }
-{
-    let x = byte_at(text, a);
-    let y = byte_at(text, b);
-    if in_run(x) {
-        return same_byte(x, y) && same_from(text, a, b);
-    }
-    !in_run(y)
+    n == 24 || !in_run(byte_at(text, b + i))
 }

@@ -1,19 +1,19 @@
 -- The proof of the cycle of calls {binary_value, cell_of, unary_value, value_in, whole_in}. The measure is three times the node, and one
 -- more for the value and two for the whole number of the same node: a child is an earlier node.
 use borrow.Author.Needs.{needs}
-use mathlib.Core.Path.{sym, ap, _∙_}
+use mathlib.Core.Path.{refl, sym, ap, _∙_}
 use Prim.Native.Nat.{ℕ, _+_, _*_, _/_, _%_, _<_}
 use native.Mathlib.Omega.{arith}
 use lib.ListN.{getD}
 use Rattle.paper.specs.declared.Ty.the-variants.{Bool as BOOL, Dint as DINT}
-use Rattle.paper.specs.Typing.{typeIn}
 use Rattle.paper.specs.Meaning.{wholeValue}
 use Rattle.tree.specs.Trees.{types, exprAt}
-use Rattle.tree.proofs.Frames.{child-most}
 use Rattle.variables.specs.Table.{listedIn}
-use Rattle.constants.specs.Answers.{valued, wholed, celled}
+use Rattle.constants.specs.Answers.{wholed}
+use Rattle.constants.proofs.Given.{not-given}
 use Rattle.constants.proofs.Nodes.{child-below}
-use Rattle.constants.proofs.Values.{cell-value, minus-value, complement-value, brackets-value, conversion-value, binary-value, other-value, variable-at, element-at, no-cell, value-at, whole-value}
+use Rattle.constants.proofs.Types.{name-at}
+use Rattle.constants.proofs.Values.{other-is, cell-is, minus-is, complement-is, conversion-is, binary-is, brackets-is, variable-at, element-at, no-cell, value-at, whole-value}
 use borrow.Fn.Kinds.{In}
 use borrow.Fn.PlainCycle.{Measures, is, falls, and}
 use Rattle.constants.proofs.binary_value.Reads as binary-value
@@ -37,9 +37,8 @@ use Rattle.constants.proofs.element_cell.Reads as element-cell-reads
 use Rattle.constants.proofs.leaf_value.Reads as leaf-value-reads
 use Rattle.constants.proofs.look.Reads as look-reads
 use Rattle.constants.proofs.minus_of.Reads as minus-of-reads
-use Rattle.constants.proofs.operand_type.Reads as operand-type-reads
+use Rattle.constants.proofs.offered_first.Reads as offered-first-reads
 use Rattle.constants.proofs.result_of.Reads as result-of-reads
-use Rattle.constants.proofs.type_in.Reads as type-in-reads
 use Rattle.constants.proofs.variable_cell.Reads as variable-cell-reads
 use Rattle.constants.proofs.whole_of.Reads as whole-of-reads
 use Rattle.tree.proofs.child.Reads as child-reads
@@ -95,10 +94,10 @@ abbrev whole-in-below : ℕ → In 4 whole-in-kinds.ps
 whole-in-below t = and 4 whole-in-kinds.ps (falls 4 whole-in-kinds.ps _<_ μ-whole-in t) whole-in.Pre
 
 abbrev binary-value-env : ℕ → binary-value-lts.Claims
-binary-value-env t = (operand-type-reads.Asked, operand-type-reads.Learnt, child-reads.Asked, child-reads.Learnt, value-in-below t, value-in.Post, kind-reads.Asked, kind-reads.Learnt, result-of-reads.Asked, result-of-reads.Learnt)
+binary-value-env t = (offered-first-reads.Asked, offered-first-reads.Learnt, child-reads.Asked, child-reads.Learnt, value-in-below t, value-in.Post, kind-reads.Asked, kind-reads.Learnt, result-of-reads.Asked, result-of-reads.Learnt)
 
-binary-value-operand-type-requires : (t : ℕ) → binary-value-lts.Need-operand-type-requires (binary-value-env t) (binary-value-at t) binary-value.Post
-binary-value-operand-type-requires t c κs = search needs
+binary-value-offered-first-requires : (t : ℕ) → binary-value-lts.Need-offered-first-requires (binary-value-env t) (binary-value-at t) binary-value.Post
+binary-value-offered-first-requires t c κs = search needs
 
 binary-value-child-requires : (t : ℕ) → binary-value-lts.Need-child-requires (binary-value-env t) (binary-value-at t) binary-value.Post
 binary-value-child-requires t c κs = search needs
@@ -132,13 +131,13 @@ binary-value-returns t c =
     let s = A .env .now in
     let vs = listedIn x p (A .table .now) in
     let g = c .before .before .before .before .before .before .before .before .before .before .before .pre in
-    let u = c .before .before .before .before .before .before .operand-type .result in
-    binary-value vs s x p (A .i) _ (sym (c .before .kind .ensures)) (A .t)
-    (valued (c .result-of .result)) (valued (c .before .before .before .before .value-in .result)) (valued (c .before .before .value-in2 .result)) u
-    (omega arith) (omega arith) (c .result-of .ensures)
-    (value-at vs s x p u (valued (c .before .before .before .before .value-in .result)) _ _ (c .before .before .before .before .value-in .ensures) (c .before .before .before .before .before .child .ensures))
-    (value-at vs s x p u (valued (c .before .before .value-in2 .result)) _ _ (c .before .before .value-in2 .ensures) (c .before .before .before .child2 .ensures))
-    (c .before .before .before .before .before .before .operand-type .ensures)
+    let u = c .before .before .before .before .before .before .offered-first .result in
+    let a = c .before .before .before .before .value-in .result in
+    let b = c .before .before .value-in2 .result in
+    binary-is vs s x p (A .i) _ (sym (c .before .kind .ensures)) (A .t) (c .result-of .result) a b u
+    (omega arith) (omega arith) (c .result-of .ensures) (c .before .before .before .before .before .before .offered-first .ensures)
+    (value-at vs s x p u a _ _ (c .before .before .before .before .value-in .ensures) (c .before .before .before .before .before .child .ensures))
+    (value-at vs s x p (a .ty) b _ _ (c .before .before .value-in2 .ensures) (c .before .before .before .child2 .ensures))
 
 abbrev cell-of-env : ℕ → cell-of-lts.Claims
 cell-of-env t = (kind-reads.Asked, kind-reads.Learnt, word-reads.Asked, word-reads.Learnt, variable-cell-reads.Asked, variable-cell-reads.Learnt, child-reads.Asked, child-reads.Learnt, whole-in-below t, whole-in.Post, element-cell-reads.Asked, element-cell-reads.Learnt)
@@ -159,7 +158,10 @@ cell-of-returns t c =
     let p = A .pool .now in
     let s = A .env .now in
     let vs = listedIn x p (A .table .now) in
-    c .variable-cell .ensures ∙ variable-at vs s x p (A .i) _ (sym (c .before .before .before .kind .ensures)) _ (c .before .before .if1 .taken) (c .before .word .ensures)
+    let k = sym (c .before .before .before .kind .ensures) in (
+      c .variable-cell .ensures .0 ∙ variable-at vs s x p (A .i) _ k _ (c .before .before .if1 .taken) (c .before .word .ensures),
+      name-at vs x p (A .i) _ k (omega arith) (omega arith) _ _ _ (c .before .word .ensures) (c .variable-cell .ensures .1),
+    )
 
 cell-of-child-requires : (t : ℕ) → cell-of-lts.Need-child-requires (cell-of-env t) (cell-of-at t) cell-of.Post
 cell-of-child-requires t c κs = search needs
@@ -183,9 +185,12 @@ cell-of-returns-2 t c =
     let p = A .pool .now in
     let s = A .env .now in
     let vs = listedIn x p (A .table .now) in
-    c .element-cell .ensures
-    ∙ element-at vs s x p (A .i) _ (sym (c .before .before .before .before .before .before .kind .ensures)) _ (wholed (c .before .before .whole-in .result)) (c .before .before .before .before .if2 .taken) (c .before .word2 .ensures)
-    (c .before .before .whole-in .ensures ∙ ap (λ j. wholeValue vs s DINT (exprAt x p j)) (c .before .before .before .child .ensures))
+    let k = sym (c .before .before .before .before .before .before .kind .ensures) in (
+      c .element-cell .ensures .0
+          ∙ element-at vs s x p (A .i) _ k _ (wholed (c .before .before .whole-in .result)) (c .before .before .before .before .if2 .taken) (c .before .word2 .ensures)
+          (c .before .before .whole-in .ensures ∙ ap (λ j. wholeValue vs s DINT (exprAt x p j)) (c .before .before .before .child .ensures)),
+      name-at vs x p (A .i) _ k (omega arith) (omega arith) _ _ _ (c .before .word2 .ensures) (c .element-cell .ensures .1),
+    )
 
 cell-of-returns-3 : (t : ℕ) → cell-of-lts.Need-returns-3 (cell-of-env t) (cell-of-at t) cell-of.Post
 cell-of-returns-3 t c =
@@ -194,10 +199,10 @@ cell-of-returns-3 t c =
     let p = A .pool .now in
     let s = A .env .now in
     let vs = listedIn x p (A .table .now) in
-    no-cell vs s x p (A .i) _ (sym (c .before .before .kind .ensures)) (c .before .if1 .left) (c .if2 .left)
+    (no-cell vs s x p (A .i) _ (sym (c .before .before .kind .ensures)) (c .before .if1 .left) (c .if2 .left), not-given)
 
 abbrev unary-value-env : ℕ → unary-value-lts.Claims
-unary-value-env t = (kind-reads.Asked, kind-reads.Learnt, child-reads.Asked, child-reads.Learnt, value-in-below t, value-in.Post, complement-of-reads.Asked, complement-of-reads.Learnt, word-reads.Asked, word-reads.Learnt, type-at-reads.Asked, type-at-reads.Learnt, conversion-of-reads.Asked, conversion-of-reads.Learnt, type-in-reads.Asked, type-in-reads.Learnt, minus-of-reads.Asked, minus-of-reads.Learnt)
+unary-value-env t = (kind-reads.Asked, kind-reads.Learnt, child-reads.Asked, child-reads.Learnt, value-in-below t, value-in.Post, complement-of-reads.Asked, complement-of-reads.Learnt, word-reads.Asked, word-reads.Learnt, type-at-reads.Asked, type-at-reads.Learnt, conversion-of-reads.Asked, conversion-of-reads.Learnt, minus-of-reads.Asked, minus-of-reads.Learnt)
 
 unary-value-kind-requires : (t : ℕ) → unary-value-lts.Need-kind-requires (unary-value-env t) (unary-value-at t) unary-value.Post
 unary-value-kind-requires t c κs = search needs
@@ -221,9 +226,9 @@ unary-value-returns t c =
     let p = A .pool .now in
     let s = A .env .now in
     let vs = listedIn x p (A .table .now) in
-    complement-value vs s x p (A .i) _ (sym (c .before .before .before .before .kind .ensures)) (A .t)
-    (valued (c .complement-of .result)) (valued (c .before .value-in .result)) (c .before .before .if1 .taken) (c .complement-of .ensures)
-    (value-at vs s x p DINT (valued (c .before .value-in .result)) _ _ (c .before .value-in .ensures) (c .before .before .before .child .ensures))
+    complement-is vs s x p (A .i) _ (sym (c .before .before .before .before .kind .ensures)) (A .t) (c .complement-of .result) (c .before .value-in .result)
+    (c .before .before .if1 .taken) (c .complement-of .ensures)
+    (value-at vs s x p DINT (c .before .value-in .result) _ _ (c .before .value-in .ensures) (c .before .before .before .child .ensures))
 
 unary-value-word-requires : (t : ℕ) → unary-value-lts.Need-word-requires (unary-value-env t) (unary-value-at t) unary-value.Post
 unary-value-word-requires t c κs = search needs
@@ -250,10 +255,10 @@ unary-value-returns-2 t c =
     let p = A .pool .now in
     let s = A .env .now in
     let vs = listedIn x p (A .table .now) in
-    conversion-value vs s x p (A .i) _ (sym (c .before .before .before .before .before .before .before .before .kind .ensures)) (A .t)
-    (valued (c .conversion-of .result)) (valued (c .before .value-in2 .result)) (c .before .before .before .type-at .result) (c .before .before .type-at2 .result)
+    let a = c .before .before .before .type-at .result in
+    conversion-is vs s x p (A .i) _ (sym (c .before .before .before .before .before .before .before .before .kind .ensures)) (A .t) (c .conversion-of .result) (c .before .value-in2 .result) a (c .before .before .type-at2 .result)
     (c .before .before .before .before .before .if2 .taken) (c .conversion-of .ensures)
-    (value-at vs s x p (c .before .before .before .type-at .result) (valued (c .before .value-in2 .result)) _ _ (c .before .value-in2 .ensures) (c .before .before .before .before .before .before .before .child .ensures))
+    (value-at vs s x p a (c .before .value-in2 .result) _ _ (c .before .value-in2 .ensures) (c .before .before .before .before .before .before .before .child .ensures))
     (c .before .before .before .type-at .ensures ∙ ap (λ w. getD types (w / 8) BOOL) (c .before .before .before .before .word .ensures))
     (c .before .before .type-at2 .ensures ∙ ap (λ w. getD types (w % 8) BOOL) (c .before .before .before .before .word .ensures))
 
@@ -270,29 +275,22 @@ unary-value-returns-3 t c =
     let p = A .pool .now in
     let s = A .env .now in
     let vs = listedIn x p (A .table .now) in
-    value-at vs s x p (A .t) (valued (c .before .value-in3 .result)) _ _ (c .before .value-in3 .ensures) (c .before .before .before .before .child .ensures)
-    ∙ brackets-value vs s x p (A .i) _ (sym (c .before .before .before .before .before .kind .ensures)) (A .t) (c .if3 .taken)
-
-unary-value-type-in-requires : (t : ℕ) → unary-value-lts.Need-type-in-requires (unary-value-env t) (unary-value-at t) unary-value.Post
-unary-value-type-in-requires t c κs =
-    let A = c .before .before .before .before .before .before .before .before .before .before .args in
-    rw (c .before .before .before .before .child .ensures) (omega (arith, child-most (A .pool .now) (A .i) 1))
+    brackets-is vs s x p (A .i) _ (sym (c .before .before .before .before .before .kind .ensures)) (A .t) (c .before .value-in3 .result) (c .if3 .taken)
+    (value-at vs s x p (A .t) (c .before .value-in3 .result) _ _ (c .before .value-in3 .ensures) (c .before .before .before .before .child .ensures))
 
 unary-value-minus-of-requires : (t : ℕ) → unary-value-lts.Need-minus-of-requires (unary-value-env t) (unary-value-at t) unary-value.Post
 unary-value-minus-of-requires t c κs = search needs
 
 unary-value-returns-4 : (t : ℕ) → unary-value-lts.Need-returns-4 (unary-value-env t) (unary-value-at t) unary-value.Post
 unary-value-returns-4 t c =
-    let A = c .before .before .before .before .before .before .before .before .before .before .before .before .args in
+    let A = c .before .before .before .before .before .before .before .before .before .before .before .args in
     let x = A .text .now in
     let p = A .pool .now in
     let s = A .env .now in
     let vs = listedIn x p (A .table .now) in
-    minus-value vs s x p (A .i) _ (sym (c .before .before .before .before .before .before .before .kind .ensures)) (A .t)
-    (valued (c .minus-of .result)) (valued (c .before .before .before .value-in3 .result)) (c .before .type-in .result)
+    minus-is vs s x p (A .i) _ (sym (c .before .before .before .before .before .before .kind .ensures)) (A .t) (c .minus-of .result) (c .before .before .value-in3 .result)
     (omega arith) (c .minus-of .ensures)
-    (value-at vs s x p (A .t) (valued (c .before .before .before .value-in3 .result)) _ _ (c .before .before .before .value-in3 .ensures) (c .before .before .before .before .before .before .child .ensures))
-    (c .before .type-in .ensures ∙ ap (λ j. typeIn vs (A .t) (exprAt x p j)) (c .before .before .before .before .before .before .child .ensures))
+    (value-at vs s x p (A .t) (c .before .before .value-in3 .result) _ _ (c .before .before .value-in3 .ensures) (c .before .before .before .before .before .child .ensures))
 
 abbrev value-in-env : ℕ → value-in-lts.Claims
 value-in-env t = (kind-reads.Asked, kind-reads.Learnt, leaf-value-reads.Asked, leaf-value-reads.Learnt, cell-of-below t, cell-of.Post, look-reads.Asked, look-reads.Learnt, unary-value-below t, unary-value.Post, binary-value-below t, binary-value.Post)
@@ -306,11 +304,7 @@ value-in-leaf-value-requires t c κs = (omega arith, omega arith)
 value-in-returns : (t : ℕ) → value-in-lts.Need-returns (value-in-env t) (value-in-at t) value-in.Post
 value-in-returns t c =
     let A = c .before .before .before .before .before .before .before .args in
-    let x = A .text .now in
-    let p = A .pool .now in
-    let s = A .env .now in
-    let vs = listedIn x p (A .table .now) in
-    c .leaf-value .ensures (A .text .now) vs s
+    c .leaf-value .ensures (A .text .now) (listedIn (A .text .now) (A .pool .now) (A .table .now)) (A .env .now)
 
 value-in-cell-of-requires : (t : ℕ) → value-in-lts.Need-cell-of-requires (value-in-env t) (value-in-at t) value-in.Post
 value-in-cell-of-requires t c κs = (omega arith, omega arith)
@@ -325,8 +319,7 @@ value-in-returns-2 t c =
     let p = A .pool .now in
     let s = A .env .now in
     let vs = listedIn x p (A .table .now) in
-    cell-value vs s x p (A .i) _ (sym (c .before .before .before .before .kind .ensures)) (A .t)
-    (valued (c .look .result)) (celled (c .before .cell-of .result))
+    cell-is vs s x p (A .i) _ (sym (c .before .before .before .before .kind .ensures)) (A .t) (c .look .result) (c .before .cell-of .result)
     (omega arith) (c .before .before .if2 .taken) (c .look .ensures) (c .before .cell-of .ensures)
 
 value-in-unary-value-requires : (t : ℕ) → value-in-lts.Need-unary-value-requires (value-in-env t) (value-in-at t) value-in.Post
@@ -348,37 +341,32 @@ value-in-returns-5 t c =
     let p = A .pool .now in
     let s = A .env .now in
     let vs = listedIn x p (A .table .now) in
-    other-value vs s x p (A .i) _ (sym (c .before .before .before .before .kind .ensures)) (A .t) (omega arith)
+    other-is vs s x p (A .i) _ (sym (c .before .before .before .before .kind .ensures)) (A .t) _ (omega arith) (refl, refl)
 
 abbrev whole-in-env : ℕ → whole-in-lts.Claims
-whole-in-env t = (value-in-below t, value-in.Post, type-in-reads.Asked, type-in-reads.Learnt, whole-of-reads.Asked, whole-of-reads.Learnt)
+whole-in-env t = (value-in-below t, value-in.Post, whole-of-reads.Asked, whole-of-reads.Learnt)
 
 whole-in-value-in-requires : (t : ℕ) → whole-in-lts.Need-value-in-requires (whole-in-env t) (whole-in-at t) whole-in.Post
 whole-in-value-in-requires t c κs = (omega arith, omega arith)
-
-whole-in-type-in-requires : (t : ℕ) → whole-in-lts.Need-type-in-requires (whole-in-env t) (whole-in-at t) whole-in.Post
-whole-in-type-in-requires t c κs = search needs
 
 whole-in-whole-of-requires : (t : ℕ) → whole-in-lts.Need-whole-of-requires (whole-in-env t) (whole-in-at t) whole-in.Post
 whole-in-whole-of-requires t c κs = search needs
 
 whole-in-returns : (t : ℕ) → whole-in-lts.Need-returns (whole-in-env t) (whole-in-at t) whole-in.Post
 whole-in-returns t c =
-    let A = c .before .before .before .before .before .before .before .args in
+    let A = c .before .before .before .before .before .before .args in
     let x = A .text .now in
     let p = A .pool .now in
     let s = A .env .now in
     let vs = listedIn x p (A .table .now) in
-    whole-value vs s (A .t) (exprAt x p (A .i))
-    (wholed (c .whole-of .result)) (valued (c .before .before .value-in .result)) (c .before .type-in .result)
-    (c .whole-of .ensures) (c .before .before .value-in .ensures) (c .before .type-in .ensures)
+    whole-value vs s (A .t) (exprAt x p (A .i)) (wholed (c .whole-of .result)) (c .before .value-in .result) (c .whole-of .ensures) (c .before .value-in .ensures)
 
 pub +binary-value+cell-of+unary-value+value-in+whole-in-spec : {M : Type 1} → statement M
 +binary-value+cell-of+unary-value+value-in+whole-in-spec =
     close μ-binary-value μ-cell-of μ-unary-value μ-value-in μ-whole-in
     (λ t.
     binary-value-lts.spec (binary-value-env t) (binary-value-at t) binary-value.Post
-    (binary-value-operand-type-requires t)
+    (binary-value-offered-first-requires t)
     (binary-value-child-requires t)
     (binary-value-value-in-requires t)
     (binary-value-child-requires-2 t)
@@ -413,7 +401,6 @@ pub +binary-value+cell-of+unary-value+value-in+whole-in-spec : {M : Type 1} → 
     (unary-value-returns-2 t)
     (unary-value-value-in-requires-3 t)
     (unary-value-returns-3 t)
-    (unary-value-type-in-requires t)
     (unary-value-minus-of-requires t)
     (unary-value-returns-4 t))
     (λ t.
@@ -430,6 +417,5 @@ pub +binary-value+cell-of+unary-value+value-in+whole-in-spec : {M : Type 1} → 
     (value-in-returns-4 t)
     (value-in-returns-5 t)) λ t. whole-in-lts.spec (whole-in-env t) (whole-in-at t) whole-in.Post
     (whole-in-value-in-requires t)
-    (whole-in-type-in-requires t)
     (whole-in-whole-of-requires t)
     (whole-in-returns t)

@@ -1,4 +1,5 @@
 -- `constants::conversion_of` meets its contract.
+use mathlib.Core.Path.{refl}
 use Rattle.paper.specs.Types.{convert}
 use Rattle.constants.proofs.Given.{given-on}
 use borrow.Author.Needs.{needs}
@@ -9,7 +10,9 @@ converted-requires : tie.Need-converted-requires
 converted-requires c κs = search needs
 
 returns : tie.Need-returns
-returns c = given-on (c .before .args .x .some) (c .before .args .x .residue) (convert (c .before .args .t) (c .before .args .u)) _ (c .converted .ensures)
+returns c =
+    let A = c .before .args in
+    (given-on (A .x .some) (A .x .residue) (convert (A .t) (A .u)) _ (c .converted .ensures), refl)
 
 pub conversion-of-spec : {M : Type 1} → statement M
 conversion-of-spec = tie.close (tie.spec converted-requires returns)

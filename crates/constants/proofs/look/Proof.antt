@@ -7,17 +7,21 @@ use borrow.Author.Needs.{needs}
 use Rattle.constants.proofs.look.Statement.{statement}
 use Rattle.constants.proofs.look.Tie as tie
 
-mul-t6 : tie.Need-mul-t6
-mul-t6 c = search needs
+mul-x : tie.Need-mul-x
+mul-x c = search needs
 
-shared-slice-read-t8 : tie.Need-shared-slice-read-t8
-shared-slice-read-t8 c = search needs
+shared-slice-read-x : tie.Need-shared-slice-read-x
+shared-slice-read-x c = search needs
 
 returns : tie.Need-returns
-returns c = given-on (c .before .before .args .cell .some) (record { 0 = c .before .before .args .cell .cell }) (look (c .before .before .args .env .now)) _ refl
+returns c =
+    let A = c .before .before .args in
+    (given-on (A .cell .some) (record { 0 = A .cell .cell }) (look (A .env .now)) _ refl, refl)
 
 returns-2 : tie.Need-returns-2
-returns-2 c = given-on (c .before .args .cell .some) (record { 0 = c .before .args .cell .cell }) (look (c .before .args .env .now)) _ (sym (List·getD-eq-default (c .before .args .env .now) 0 (c .if1 .left)))
+returns-2 c =
+    let A = c .before .args in
+    (given-on (A .cell .some) (record { 0 = A .cell .cell }) (look (A .env .now)) _ (sym (List·getD-eq-default (A .env .now) 0 (c .if1 .left))), refl)
 
 pub look-spec : {M : Type 1} → statement M
-look-spec = tie.close (tie.spec mul-t6 shared-slice-read-t8 returns returns-2)
+look-spec = tie.close (tie.spec mul-x shared-slice-read-x returns returns-2)

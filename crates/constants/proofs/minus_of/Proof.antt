@@ -1,4 +1,5 @@
 -- `constants::minus_of` meets its contract.
+use mathlib.Core.Path.{refl}
 use Rattle.paper.specs.Types.{negate}
 use Rattle.constants.proofs.Given.{given-on}
 use borrow.Author.Needs.{needs}
@@ -9,7 +10,9 @@ negated-requires : tie.Need-negated-requires
 negated-requires c κs = search needs
 
 returns : tie.Need-returns
-returns c = given-on (c .before .args .x .some) (c .before .args .x .residue) (negate (c .before .args .t)) _ (c .negated .ensures)
+returns c =
+    let x = c .before .args .x in
+    (given-on (x .some) (x .residue) (negate (x .ty)) _ (c .negated .ensures), refl)
 
 pub minus-of-spec : {M : Type 1} → statement M
 minus-of-spec = tie.close (tie.spec negated-requires returns)

@@ -4,7 +4,9 @@ use mathlib.Core.Option.{some}
 use borrow.Author.Tests.{not-true, not-false}
 use Rattle.paper.specs.Names.{isArray}
 use Rattle.tree.specs.Trees.{nameAt}
-use Rattle.variables.specs.Table.{boundsIn, listedIn}
+use Rattle.variables.specs.Table.{typeAt, boundsIn, listedIn}
+use Rattle.constants.proofs.Given.{not-given}
+use Rattle.constants.proofs.Types.{type-of-name}
 use Rattle.constants.proofs.Cells.{variable-cell, array-no-cell, no-variable}
 use borrow.Author.Needs.{needs}
 use Rattle.constants.proofs.variable_cell.Statement.{statement}
@@ -25,23 +27,34 @@ word-requires c κs = search needs
 cast-t13 : tie.Need-cast-t13
 cast-t13 c = search needs
 
+type-of-requires : tie.Need-type-of-requires
+type-of-requires c κs = search needs
+
 returns : tie.Need-returns
 returns c =
-    let A = c .before .before .before .before .before .before .before .before .before .args in
-    let single = sym (ap (λ j. isArray (boundsIn (A .pool .now) j)) (c .before .before .before .declaration-of .ensures .0)) ∙ sym (c .before .before .is-array .ensures) ∙ not-true _ (c .before .if2 .taken) in
-    ap (λ n. some (record { 0 = n })) (c .word .ensures)
-    ∙ variable-cell (listedIn (A .text .now) (A .pool .now) (A .table .now)) (nameAt (A .text .now) (A .place)) _ (c .before .before .before .before .before .find .ensures .listed (c .before .before .before .before .if1 .taken) (A .pool .now)) single
+    let A = c .before .before .before .before .before .before .before .before .before .before .args in
+    let p = A .pool .now in
+    let vs = listedIn (A .text .now) p (A .table .now) in
+    let n = nameAt (A .text .now) (A .place) in
+    let node = c .before .before .before .before .declaration-of .ensures .0 in
+    let listed = c .before .before .before .before .before .before .find .ensures .listed (c .before .before .before .before .before .if1 .taken) p in
+    let single = sym (ap (λ j. isArray (boundsIn p j)) node) ∙ sym (c .before .before .before .is-array .ensures) ∙ not-true _ (c .before .before .if2 .taken) in (
+      ap (λ n. some (record { 0 = n })) (c .before .word .ensures) ∙ variable-cell vs n _ listed single,
+      λ e. c .type-of .ensures ∙ ap (typeAt p) node ∙ type-of-name vs n _ listed,
+    )
 
 returns-2 : tie.Need-returns-2
 returns-2 c =
     let A = c .before .before .before .before .before .before .before .before .args in
-    let array = sym (ap (λ j. isArray (boundsIn (A .pool .now) j)) (c .before .before .declaration-of .ensures .0)) ∙ sym (c .before .is-array .ensures) ∙ not-false _ (c .if2 .left) in
-    array-no-cell (listedIn (A .text .now) (A .pool .now) (A .table .now)) (nameAt (A .text .now) (A .place)) _ (c .before .before .before .before .find .ensures .listed (c .before .before .before .if1 .taken) (A .pool .now)) array
+    let p = A .pool .now in
+    let array = sym (ap (λ j. isArray (boundsIn p j)) (c .before .before .declaration-of .ensures .0)) ∙ sym (c .before .is-array .ensures) ∙ not-false _ (c .if2 .left) in
+    (array-no-cell (listedIn (A .text .now) p (A .table .now)) (nameAt (A .text .now) (A .place)) _ (c .before .before .before .before .find .ensures .listed (c .before .before .before .if1 .taken) p) array, not-given)
 
 returns-3 : tie.Need-returns-3
 returns-3 c =
     let A = c .before .before .before .before .before .args in
-    no-variable (listedIn (A .text .now) (A .pool .now) (A .table .now)) (nameAt (A .text .now) (A .place)) (c .before .find .ensures .unlisted (c .if1 .left) (A .pool .now))
+    let p = A .pool .now in
+    (no-variable (listedIn (A .text .now) p (A .table .now)) (nameAt (A .text .now) (A .place)) (c .before .find .ensures .unlisted (c .if1 .left) p), not-given)
 
 pub variable-cell-spec : {M : Type 1} → statement M
 variable-cell-spec =
@@ -52,6 +65,7 @@ variable-cell-spec =
     is-array-requires
     word-requires
     cast-t13
+    type-of-requires
     returns
     returns-2
     returns-3)

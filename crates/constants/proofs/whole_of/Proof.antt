@@ -12,7 +12,7 @@ value-of-requires c κs = search needs
 returns : tie.Need-returns
 returns c =
     let A = c .before .args in
-    given-on (A .x .some) (A .x .residue) (decode (A .t)) _ (read-back (A .t) (A .x .residue) (c .value-of .ensures))
+    given-on (A .x .some) (A .x .residue) (decode (A .x .ty)) _ (read-back (A .x .ty) (A .x .residue) (c .value-of .ensures))
 
 pub whole-of-spec : {M : Type 1} → statement M
 whole-of-spec = tie.close (tie.spec value-of-requires returns)

@@ -133,27 +133,24 @@ abbrev wrapped-below : ℕ → In 2 wrapped-kinds.ps
 wrapped-below t = and 2 wrapped-kinds.ps (falls 2 wrapped-kinds.ps _<_ μ-wrapped t) wrapped.Pre
 
 abbrev bracketed-env : ℕ → bracketed-lts.Claims
-bracketed-env t = (next-word-reads.Asked, next-word-reads.Learnt, broken-reads.Asked, broken-reads.Learnt, too-deep-reads.Asked, too-deep-reads.Learnt, expression-below t, expression.Post, expect-reads.Asked, expect-reads.Learnt)
+bracketed-env t = (broken-reads.Asked, broken-reads.Learnt, too-deep-reads.Asked, too-deep-reads.Learnt, expression-below t, expression.Post, expect-reads.Asked, expect-reads.Learnt)
 
 -- the opening bracket moves on
-bracketed-moves : (t : ℕ) (c : bracketed-lts.Else1 (bracketed-env t) (bracketed-at t) bracketed.Post) → c .before .before .next-word .result .at < c .before .before .next-word .result .end
-bracketed-moves t c = class-moves _ _ _ (c .before .before .next-word .ensures) 62 (c .if1 .left) refl refl
-
-bracketed-next-word-requires : (t : ℕ) → bracketed-lts.Need-next-word-requires (bracketed-env t) (bracketed-at t) bracketed.Post
-bracketed-next-word-requires t c κs = search needs
+bracketed-moves : (t : ℕ) (c : bracketed-lts.Else1 (bracketed-env t) (bracketed-at t) bracketed.Post) → c .before .before .before .before .args .w .at < c .before .before .before .before .args .w .end
+bracketed-moves t c = class-moves _ _ _ (c .before .before .before .before .pre .1 .1) 62 (c .if1 .left) refl refl
 
 bracketed-broken-requires : (t : ℕ) → bracketed-lts.Need-broken-requires (bracketed-env t) (bracketed-at t) bracketed.Post
 bracketed-broken-requires t c κs = search needs
 
 bracketed-returns : (t : ℕ) → bracketed-lts.Need-returns (bracketed-env t) (bracketed-at t) bracketed.Post
 bracketed-returns t c =
-    let A = c .before .before .before .before .before .before .args in
+    let A = c .before .before .before .before .before .args in
     rw (c .broken .ensures) (
       search needs,
       record {
         within = search needs;
         same = λ j h. refl;
-        runs = bracketed-other (A .text .now) (A .at) (A .nest) _ (c .before .before .before .next-word .ensures) _ _ (A .count) (c .before .if1 .taken) refl;
+        runs = bracketed-other (A .text .now) (A .at) (A .nest) _ (c .before .before .before .before .before .pre .1 .1) _ _ (A .count) (c .before .if1 .taken) refl;
       },
     )
 
@@ -162,13 +159,13 @@ bracketed-too-deep-requires t c κs = search needs
 
 bracketed-returns-2 : (t : ℕ) → bracketed-lts.Need-returns-2 (bracketed-env t) (bracketed-at t) bracketed.Post
 bracketed-returns-2 t c =
-    let A = c .before .before .before .before .before .before .before .args in
+    let A = c .before .before .before .before .before .before .args in
     rw (c .too-deep .ensures) (
       search needs,
       record {
         within = search needs;
         same = λ j h. refl;
-        runs = bracketed-deep (A .text .now) (A .at) (A .nest) _ (c .before .before .before .before .next-word .ensures) _ _ (c .before .before .if1 .left) (A .count) (c .before .if2 .taken) refl;
+        runs = bracketed-deep (A .text .now) (A .at) (A .nest) _ (c .before .before .before .before .before .before .pre .1 .1) _ _ (c .before .before .if1 .left) (A .count) (c .before .if2 .taken) refl;
       },
     )
 
@@ -183,11 +180,11 @@ bracketed-same-length t c = search needs
 
 bracketed-returns-3 : (t : ℕ) → bracketed-lts.Need-returns-3 (bracketed-env t) (bracketed-at t) bracketed.Post
 bracketed-returns-3 t c =
-    let A = c .before .before .before .before .before .before .before .before .before .before .before .before .args in
+    let A = c .before .before .before .before .before .before .before .before .before .before .before .args in
     let m = bracketed-moves t (c .before .before .before .before .before .before .before) in (
       search needs,
-      inside-bad (A .text .now) (A .pool .now) (A .at) (A .at) (A .nest) (A .count) 1 _ (c .before .before .before .before .before .before .before .before .before .next-word .ensures) m (omega arith) ")" (λ x. x) _
-          (λ D r. bracketed-on (A .text .now) (A .at) (A .nest) _ (c .before .before .before .before .before .before .before .before .before .next-word .ensures) D r (c .before .before .before .before .before .before .before .if1 .left) (c .before .before .before .before .before .before .if2 .left)) _ _ (c .before .before .before .before .expression .ensures) (c .if3 .taken),
+      inside-bad (A .text .now) (A .pool .now) (A .at) (A .at) (A .nest) (A .count) 1 _ (c .before .before .before .before .before .before .before .before .before .before .before .pre .1 .1) m (omega arith) ")" (λ x. x) _
+          (λ D r. bracketed-on (A .text .now) (A .at) (A .nest) _ (c .before .before .before .before .before .before .before .before .before .before .before .pre .1 .1) D r (c .before .before .before .before .before .before .before .if1 .left) (c .before .before .before .before .before .before .if2 .left)) _ _ (c .before .before .before .before .expression .ensures) (c .if3 .taken),
     )
 
 bracketed-expect-requires : (t : ℕ) → bracketed-lts.Need-expect-requires (bracketed-env t) (bracketed-at t) bracketed.Post
@@ -198,11 +195,11 @@ bracketed-same-length-2 t c = search needs
 
 bracketed-returns-4 : (t : ℕ) → bracketed-lts.Need-returns-4 (bracketed-env t) (bracketed-at t) bracketed.Post
 bracketed-returns-4 t c =
-    let A = c .before .before .before .before .before .before .before .before .before .before .before .before .before .before .before .args in
+    let A = c .before .before .before .before .before .before .before .before .before .before .before .before .before .before .args in
     let m = bracketed-moves t (c .before .before .before .before .before .before .before .before .before .before) in (
-      omega (arith, c .before .before .expect .ensures, c .before .before .before .before .before .before .before .expression .ensures .within, c .before .before .before .before .before .before .before .before .before .before .before .before .next-word .ensures, c .before .before .before .before .before .before .before .before .before .before .before .before .before .before .before .pre),
-      inside-open (A .text .now) (A .pool .now) (A .at) (A .at) (A .nest) (A .count) 1 _ (c .before .before .before .before .before .before .before .before .before .before .before .before .next-word .ensures) m (omega arith) ")" (λ x. x) _
-          (λ D r. bracketed-on (A .text .now) (A .at) (A .nest) _ (c .before .before .before .before .before .before .before .before .before .before .before .before .next-word .ensures) D r (c .before .before .before .before .before .before .before .before .before .before .if1 .left) (c .before .before .before .before .before .before .before .before .before .if2 .left)) _ _ (c .before .before .before .before .before .before .before .expression .ensures) 63 key-round-end _ (c .before .before .expect .ensures) (c .before .before .before .if3 .left) (c .if4 .taken),
+      omega (arith, c .before .before .expect .ensures, c .before .before .before .before .before .before .before .expression .ensures .within, c .before .before .before .before .before .before .before .before .before .before .before .before .before .before .pre .1 .1, c .before .before .before .before .before .before .before .before .before .before .before .before .before .before .pre),
+      inside-open (A .text .now) (A .pool .now) (A .at) (A .at) (A .nest) (A .count) 1 _ (c .before .before .before .before .before .before .before .before .before .before .before .before .before .before .pre .1 .1) m (omega arith) ")" (λ x. x) _
+          (λ D r. bracketed-on (A .text .now) (A .at) (A .nest) _ (c .before .before .before .before .before .before .before .before .before .before .before .before .before .before .pre .1 .1) D r (c .before .before .before .before .before .before .before .before .before .before .if1 .left) (c .before .before .before .before .before .before .before .before .before .if2 .left)) _ _ (c .before .before .before .before .before .before .before .expression .ensures) 63 key-round-end _ (c .before .before .expect .ensures) (c .before .before .before .if3 .left) (c .if4 .taken),
     )
 
 bracketed-same-length-3 : (t : ℕ) → bracketed-lts.Need-same-length-3 (bracketed-env t) (bracketed-at t) bracketed.Post
@@ -210,12 +207,12 @@ bracketed-same-length-3 t c = search needs
 
 bracketed-returns-5 : (t : ℕ) → bracketed-lts.Need-returns-5 (bracketed-env t) (bracketed-at t) bracketed.Post
 bracketed-returns-5 t c =
-    let A = c .before .before .before .before .before .before .before .before .before .before .before .before .before .before .before .args in
+    let A = c .before .before .before .before .before .before .before .before .before .before .before .before .before .before .args in
     let m = bracketed-moves t (c .before .before .before .before .before .before .before .before .before .before) in
     let x = c .before .before .before .before .before .before .before .expression .ensures in (
-      omega (arith, c .before .before .expect .ensures, x .within, c .before .before .before .before .before .before .before .before .before .before .before .before .next-word .ensures, c .before .before .before .before .before .before .before .before .before .before .before .before .before .before .before .pre),
-      inside-good (A .text .now) (A .pool .now) (A .at) (A .at) (A .nest) (A .count) 1 _ (c .before .before .before .before .before .before .before .before .before .before .before .before .next-word .ensures) m (omega arith) ")" (λ x. x) _
-          (λ D r. bracketed-on (A .text .now) (A .at) (A .nest) _ (c .before .before .before .before .before .before .before .before .before .before .before .before .next-word .ensures) D r (c .before .before .before .before .before .before .before .before .before .before .if1 .left) (c .before .before .before .before .before .before .before .before .before .if2 .left)) _ _ x 63 key-round-end _ (c .before .before .expect .ensures) (c .before .before .before .if3 .left)
+      omega (arith, c .before .before .expect .ensures, x .within, c .before .before .before .before .before .before .before .before .before .before .before .before .before .before .pre .1 .1, c .before .before .before .before .before .before .before .before .before .before .before .before .before .before .pre),
+      inside-good (A .text .now) (A .pool .now) (A .at) (A .at) (A .nest) (A .count) 1 _ (c .before .before .before .before .before .before .before .before .before .before .before .before .before .before .pre .1 .1) m (omega arith) ")" (λ x. x) _
+          (λ D r. bracketed-on (A .text .now) (A .at) (A .nest) _ (c .before .before .before .before .before .before .before .before .before .before .before .before .before .before .pre .1 .1) D r (c .before .before .before .before .before .before .before .before .before .before .if1 .left) (c .before .before .before .before .before .before .before .before .before .if2 .left)) _ _ x 63 key-round-end _ (c .before .before .expect .ensures) (c .before .before .before .if3 .left)
           _ _ _ (c .if4 .left) (x .same) (omega arith) (omega arith) (omega (arith, x .within)) refl,
     )
 
@@ -523,7 +520,9 @@ operand-returns t c =
     (put-below (A .text .now) (A .pool .now) new (A .count + 1) _ _ _ (omega arith) (omega (arith, m, w, v, c .before .before .before .before .before .before .before .before .before .before .before .before .before .before .before .before .pre)) _ (c .before .before .before .before .before .before .low .ensures) (c .before .before .before .before .before .high .ensures) (c .before .before .before .put .ensures))))
 
 operand-signed-requires : (t : ℕ) → operand-lts.Need-signed-requires (operand-env t) (operand-at t) operand.Post
-operand-signed-requires t c κs = let m = class-moves _ _ _ (c .before .before .before .before .before .before .next-word .ensures) 69 (c .before .before .before .before .if1 .taken) refl refl in search needs
+operand-signed-requires t c κs =
+    let m = class-moves _ _ _ (c .before .before .before .before .before .before .next-word .ensures) 69 (c .before .before .before .before .if1 .taken) refl refl in
+    (omega arith, (search needs, c .before .before .before .next-word2 .ensures, omega arith, omega arith, omega arith))
 
 operand-same-length-2 : (t : ℕ) → operand-lts.Need-same-length-2 (operand-env t) (operand-at t) operand.Post
 operand-same-length-2 t c = search needs
@@ -535,22 +534,27 @@ operand-returns-2 t c =
     record {
       within = search needs;
       same = c .before .before .signed .ensures .same;
-      runs = operand-minus (A .text .now) (A .at) (A .nest) _ (c .before .before .before .before .before .before .before .before .before .next-word .ensures) (exprAt (A .text .now) (c .before .before .signed .last .1 .1 .1 .0)) _ (c .before .before .before .before .before .before .before .if1 .taken) _ (c .before .before .before .before .before .before .next-word2 .ensures) (c .before .before .before .before .if2 .left) (c .before .before .signed .ensures .runs);
+      runs = operand-minus (A .text .now) (A .at) (A .nest) _ (c .before .before .before .before .before .before .before .before .before .next-word .ensures) (exprAt (A .text .now) (c .before .before .signed .last .1 .1 .1 .1 .0)) _ (c .before .before .before .before .before .before .before .if1 .taken) _ (c .before .before .before .before .before .before .next-word2 .ensures) (c .before .before .before .before .if2 .left) (c .before .before .signed .ensures .runs);
     }
 
+operand-next-word-requires-3 : (t : ℕ) → operand-lts.Need-next-word-requires-3 (operand-env t) (operand-at t) operand.Post
+operand-next-word-requires-3 t c κs = search needs
+
 operand-signed-requires-2 : (t : ℕ) → operand-lts.Need-signed-requires-2 (operand-env t) (operand-at t) operand.Post
-operand-signed-requires-2 t c κs = let m = class-moves _ _ _ (c .before .before .before .before .before .next-word .ensures) 28 (c .before .if3 .taken) refl refl in search needs
+operand-signed-requires-2 t c κs =
+    let m = class-moves _ _ _ (c .before .before .before .before .before .before .next-word .ensures) 28 (c .before .before .if3 .taken) refl refl in
+    (omega arith, (search needs, c .before .next-word3 .ensures, omega arith, omega arith, omega arith))
 
 operand-same-length-3 : (t : ℕ) → operand-lts.Need-same-length-3 (operand-env t) (operand-at t) operand.Post
 operand-same-length-3 t c = search needs
 
 operand-returns-3 : (t : ℕ) → operand-lts.Need-returns-3 (operand-env t) (operand-at t) operand.Post
 operand-returns-3 t c =
-    let A = c .before .before .before .before .before .before .before .before .before .before .before .args in
+    let A = c .before .before .before .before .before .before .before .before .before .before .before .before .args in
     record {
       within = search needs;
       same = c .before .before .signed2 .ensures .same;
-      runs = operand-not (A .text .now) (A .at) (A .nest) _ (c .before .before .before .before .before .before .before .before .next-word .ensures) (exprAt (A .text .now) (c .before .before .signed2 .last .1 .1 .1 .0)) _ (c .before .before .before .before .before .before .if1 .left) (c .before .before .before .before .if3 .taken) (c .before .before .signed2 .ensures .runs);
+      runs = operand-not (A .text .now) (A .at) (A .nest) _ (c .before .before .before .before .before .before .before .before .before .next-word .ensures) (exprAt (A .text .now) (c .before .before .signed2 .last .1 .1 .1 .1 .0)) _ (c .before .before .before .before .before .before .before .if1 .left) (c .before .before .before .before .before .if3 .taken) (c .before .before .signed2 .ensures .runs);
     }
 
 operand-primary-requires : (t : ℕ) → operand-lts.Need-primary-requires (operand-env t) (operand-at t) operand.Post
@@ -565,28 +569,25 @@ operand-returns-4 t c =
     record {
       within = search needs;
       same = c .before .before .primary .ensures .same;
-      runs = operand-plain (A .text .now) (A .at) (A .nest) _ (c .before .before .before .before .before .before .before .before .next-word .ensures) (exprAt (A .text .now) (c .before .before .primary .last .1 .1 .1 .0)) _ (c .before .before .before .before .before .before .if1 .left) (c .before .before .before .before .if3 .left) (c .before .before .primary .ensures .runs);
+      runs = operand-plain (A .text .now) (A .at) (A .nest) _ (c .before .before .before .before .before .before .before .before .next-word .ensures) (exprAt (A .text .now) (c .before .before .primary .last .1 .1 .1 .1 .0)) _ (c .before .before .before .before .before .before .if1 .left) (c .before .before .before .before .if3 .left) (c .before .before .primary .ensures .runs);
     }
 
 abbrev primary-env : ℕ → primary-lts.Claims
-primary-env t = (next-word-reads.Asked, next-word-reads.Learnt, named-below t, named.Post, low-reads.Asked, low-reads.Learnt, high-reads.Asked, high-reads.Learnt, put-reads.Asked, put-reads.Learnt, leaf-reads.Asked, leaf-reads.Learnt, conversion-reads.Asked, conversion-reads.Learnt, wrapped-below t, wrapped.Post)
-
-primary-next-word-requires : (t : ℕ) → primary-lts.Need-next-word-requires (primary-env t) (primary-at t) primary.Post
-primary-next-word-requires t c κs = search needs
+primary-env t = (named-below t, named.Post, low-reads.Asked, low-reads.Learnt, high-reads.Asked, high-reads.Learnt, put-reads.Asked, put-reads.Learnt, leaf-reads.Asked, leaf-reads.Learnt, conversion-reads.Asked, conversion-reads.Learnt, wrapped-below t, wrapped.Post, next-word-reads.Asked, next-word-reads.Learnt)
 
 primary-named-requires : (t : ℕ) → primary-lts.Need-named-requires (primary-env t) (primary-at t) primary.Post
-primary-named-requires t c κs = let m = class-moves _ _ _ (c .before .before .before .next-word .ensures) 1 (c .before .if1 .taken) refl refl in search needs
+primary-named-requires t c κs = let m = class-moves _ _ _ (c .before .before .before .before .before .pre .1 .1) 1 (c .before .if1 .taken) refl refl in search needs
 
 primary-same-length : (t : ℕ) → primary-lts.Need-same-length (primary-env t) (primary-at t) primary.Post
 primary-same-length t c = search needs
 
 primary-returns : (t : ℕ) → primary-lts.Need-returns (primary-env t) (primary-at t) primary.Post
 primary-returns t c =
-    let A = c .before .before .before .before .before .before .before .before .before .args in
+    let A = c .before .before .before .before .before .before .before .before .args in
     record {
       within = search needs;
       same = c .before .before .named .ensures .same;
-      runs = primary-name (A .text .now) (A .at) (A .nest) _ (c .before .before .before .before .before .before .next-word .ensures) (exprAt (A .text .now) (c .before .before .named .last .1 .1 .1 .1 .0)) _ (c .before .before .before .before .if1 .taken) (c .before .before .named .ensures .runs);
+      runs = primary-name (A .text .now) (A .at) (A .nest) _ (c .before .before .before .before .before .before .before .before .pre .1 .1) (exprAt (A .text .now) (c .before .before .named .last .1 .1 .1 .1 .0)) _ (c .before .before .before .before .if1 .taken) (c .before .before .named .ensures .runs);
     }
 
 primary-add-put : (t : ℕ) → primary-lts.Need-add-put (primary-env t) (primary-at t) primary.Post
@@ -602,7 +603,7 @@ primary-cast-put : (t : ℕ) → primary-lts.Need-cast-put (primary-env t) (prim
 primary-cast-put t c = search needs
 
 primary-put-requires : (t : ℕ) → primary-lts.Need-put-requires (primary-env t) (primary-at t) primary.Post
-primary-put-requires t c κs = let m = class-moves _ _ _ (c .before .before .before .before .before .before .before .before .next-word .ensures) 2 (c .before .before .before .before .if2 .taken) refl refl in search needs
+primary-put-requires t c κs = let m = class-moves _ _ _ (c .before .before .before .before .before .before .before .before .before .before .pre .1 .1) 2 (c .before .before .before .before .if2 .taken) refl refl in search needs
 
 primary-add-leaf : (t : ℕ) → primary-lts.Need-add-leaf (primary-env t) (primary-at t) primary.Post
 primary-add-leaf t c = search needs
@@ -615,14 +616,14 @@ primary-same-length-2 t c = search needs
 
 primary-returns-2 : (t : ℕ) → primary-lts.Need-returns-2 (primary-env t) (primary-at t) primary.Post
 primary-returns-2 t c =
-    let A = c .before .before .before .before .before .before .before .before .before .before .before .before .before .before .before .args in
-    let w = c .before .before .before .before .before .before .before .before .before .before .before .before .next-word .ensures in
+    let A = c .before .before .before .before .before .before .before .before .before .before .before .before .before .before .args in
+    let w = c .before .before .before .before .before .before .before .before .before .before .before .before .before .before .pre .1 .1 in
     let m = class-moves _ _ _ w 2 (c .before .before .before .before .before .before .before .before .if2 .taken) refl refl in
     let new = c .before .before .before .put .last .0 in
     rw (c .leaf .ensures)
     (leaf-did (A .text .now) (A .pool .now) new (A .at) (A .at) (A .count) 1 1 _ _ _ _ _ _ (omega (arith, m, w .from)) (w .to) (c .before .before .before .put .ensures)
     (primary-number (A .text .now) (A .at) (A .nest) _ w (exprAt (A .text .now) new) _ (A .count + 1) (c .before .before .before .before .before .before .before .before .if2 .taken) refl
-    (put-plain (A .text .now) (A .pool .now) new (A .count + 1) _ _ _ (omega arith) (omega (arith, m, w .from, w .to, c .before .before .before .before .before .before .before .before .before .before .before .before .before .before .before .pre)) _ (c .before .before .before .before .before .before .low .ensures) (c .before .before .before .before .before .high .ensures) (c .before .before .before .put .ensures))))
+    (put-plain (A .text .now) (A .pool .now) new (A .count + 1) _ _ _ (omega arith) (omega (arith, m, w .from, w .to, c .before .before .before .before .before .before .before .before .before .before .before .before .before .before .pre)) _ (c .before .before .before .before .before .before .low .ensures) (c .before .before .before .before .before .high .ensures) (c .before .before .before .put .ensures))))
 
 primary-add-put-2 : (t : ℕ) → primary-lts.Need-add-put-2 (primary-env t) (primary-at t) primary.Post
 primary-add-put-2 t c = search needs
@@ -631,7 +632,7 @@ primary-cast-put-2 : (t : ℕ) → primary-lts.Need-cast-put-2 (primary-env t) (
 primary-cast-put-2 t c = search needs
 
 primary-put-requires-2 : (t : ℕ) → primary-lts.Need-put-requires-2 (primary-env t) (primary-at t) primary.Post
-primary-put-requires-2 t c κs = let m = class-moves _ _ _ (c .before .before .before .before .before .before .before .before .next-word .ensures) 33 (c .before .before .if3 .taken) refl refl in search needs
+primary-put-requires-2 t c κs = let m = class-moves _ _ _ (c .before .before .before .before .before .before .before .before .before .before .pre .1 .1) 33 (c .before .before .if3 .taken) refl refl in search needs
 
 primary-add-leaf-2 : (t : ℕ) → primary-lts.Need-add-leaf-2 (primary-env t) (primary-at t) primary.Post
 primary-add-leaf-2 t c = search needs
@@ -644,14 +645,14 @@ primary-same-length-3 t c = search needs
 
 primary-returns-3 : (t : ℕ) → primary-lts.Need-returns-3 (primary-env t) (primary-at t) primary.Post
 primary-returns-3 t c =
-    let A = c .before .before .before .before .before .before .before .before .before .before .before .before .before .before .before .args in
-    let w = c .before .before .before .before .before .before .before .before .before .before .before .before .next-word .ensures in
+    let A = c .before .before .before .before .before .before .before .before .before .before .before .before .before .before .args in
+    let w = c .before .before .before .before .before .before .before .before .before .before .before .before .before .before .pre .1 .1 in
     let m = class-moves _ _ _ w 33 (c .before .before .before .before .before .before .if3 .taken) refl refl in
     let new = c .before .before .before .put2 .last .0 in
     rw (c .leaf2 .ensures)
     (leaf-did (A .text .now) (A .pool .now) new (A .at) (A .at) (A .count) 1 1 _ _ _ _ _ _ (omega (arith, m, w .from)) (w .to) (c .before .before .before .put2 .ensures)
     (primary-truth (A .text .now) (A .at) (A .nest) _ w (exprAt (A .text .now) new) _ true (A .count + 1) (c .before .before .before .before .before .before .if3 .taken) refl
-    (put-flag (A .text .now) (A .pool .now) new (A .count + 1) _ _ _ (omega arith) (omega (arith, m, w .from, w .to, c .before .before .before .before .before .before .before .before .before .before .before .before .before .before .before .pre)) true (c .before .before .before .put2 .ensures))))
+    (put-flag (A .text .now) (A .pool .now) new (A .count + 1) _ _ _ (omega arith) (omega (arith, m, w .from, w .to, c .before .before .before .before .before .before .before .before .before .before .before .before .before .before .pre)) true (c .before .before .before .put2 .ensures))))
 
 primary-add-put-3 : (t : ℕ) → primary-lts.Need-add-put-3 (primary-env t) (primary-at t) primary.Post
 primary-add-put-3 t c = search needs
@@ -660,7 +661,7 @@ primary-cast-put-3 : (t : ℕ) → primary-lts.Need-cast-put-3 (primary-env t) (
 primary-cast-put-3 t c = search needs
 
 primary-put-requires-3 : (t : ℕ) → primary-lts.Need-put-requires-3 (primary-env t) (primary-at t) primary.Post
-primary-put-requires-3 t c κs = let m = class-moves _ _ _ (c .before .before .before .before .before .before .before .before .before .before .next-word .ensures) 34 (c .before .before .if4 .taken) refl refl in search needs
+primary-put-requires-3 t c κs = let m = class-moves _ _ _ (c .before .before .before .before .before .before .before .before .before .before .before .before .pre .1 .1) 34 (c .before .before .if4 .taken) refl refl in search needs
 
 primary-add-leaf-3 : (t : ℕ) → primary-lts.Need-add-leaf-3 (primary-env t) (primary-at t) primary.Post
 primary-add-leaf-3 t c = search needs
@@ -673,39 +674,42 @@ primary-same-length-4 t c = search needs
 
 primary-returns-4 : (t : ℕ) → primary-lts.Need-returns-4 (primary-env t) (primary-at t) primary.Post
 primary-returns-4 t c =
-    let A = c .before .before .before .before .before .before .before .before .before .before .before .before .before .before .before .before .before .args in
-    let w = c .before .before .before .before .before .before .before .before .before .before .before .before .before .before .next-word .ensures in
+    let A = c .before .before .before .before .before .before .before .before .before .before .before .before .before .before .before .before .args in
+    let w = c .before .before .before .before .before .before .before .before .before .before .before .before .before .before .before .before .pre .1 .1 in
     let m = class-moves _ _ _ w 34 (c .before .before .before .before .before .before .if4 .taken) refl refl in
     let new = c .before .before .before .put3 .last .0 in
     rw (c .leaf3 .ensures)
     (leaf-did (A .text .now) (A .pool .now) new (A .at) (A .at) (A .count) 1 1 _ _ _ _ _ _ (omega (arith, m, w .from)) (w .to) (c .before .before .before .put3 .ensures)
     (primary-truth (A .text .now) (A .at) (A .nest) _ w (exprAt (A .text .now) new) _ false (A .count + 1) (c .before .before .before .before .before .before .if4 .taken) refl
-    (put-flag (A .text .now) (A .pool .now) new (A .count + 1) _ _ _ (omega arith) (omega (arith, m, w .from, w .to, c .before .before .before .before .before .before .before .before .before .before .before .before .before .before .before .before .before .pre)) false (c .before .before .before .put3 .ensures))))
+    (put-flag (A .text .now) (A .pool .now) new (A .count + 1) _ _ _ (omega arith) (omega (arith, m, w .from, w .to, c .before .before .before .before .before .before .before .before .before .before .before .before .before .before .before .before .pre)) false (c .before .before .before .put3 .ensures))))
 
 primary-conversion-requires : (t : ℕ) → primary-lts.Need-conversion-requires (primary-env t) (primary-at t) primary.Post
 primary-conversion-requires t c κs = search needs
 
 primary-wrapped-requires : (t : ℕ) → primary-lts.Need-wrapped-requires (primary-env t) (primary-at t) primary.Post
-primary-wrapped-requires t c κs = search needs
+primary-wrapped-requires t c κs = (omega arith, (search needs, c .before .before .before .before .before .before .before .before .before .before .before .before .before .pre .1 .1, omega arith, omega arith, omega arith))
 
 primary-same-length-5 : (t : ℕ) → primary-lts.Need-same-length-5 (primary-env t) (primary-at t) primary.Post
 primary-same-length-5 t c = search needs
 
 primary-returns-5 : (t : ℕ) → primary-lts.Need-returns-5 (primary-env t) (primary-at t) primary.Post
 primary-returns-5 t c =
-    let A = c .before .before .before .before .before .before .before .before .before .before .before .before .before .before .before .before .before .args in
+    let A = c .before .before .before .before .before .before .before .before .before .before .before .before .before .before .before .before .args in
     record {
       within = search needs;
       same = c .before .before .wrapped .ensures .same;
-      runs = primary-brackets (A .text .now) (A .at) (A .nest) _ (c .before .before .before .before .before .before .before .before .before .before .before .before .before .before .next-word .ensures) (exprAt (A .text .now) (c .before .before .wrapped .last .1 .1 .1 .0)) _ _ (c .before .before .before .before .before .conversion .ensures)
+      runs = primary-brackets (A .text .now) (A .at) (A .nest) _ (c .before .before .before .before .before .before .before .before .before .before .before .before .before .before .before .before .pre .1 .1) (exprAt (A .text .now) (c .before .before .wrapped .last .1 .1 .1 .1 .0)) _ _ (c .before .before .before .before .before .conversion .ensures)
           (c .before .before .before .before .before .before .before .before .before .before .before .before .if1 .left) (c .before .before .before .before .before .before .before .before .before .before .if2 .left) (c .before .before .before .before .before .before .before .before .if3 .left) (c .before .before .before .before .before .before .if4 .left) (c .before .before .before .before .if5 .taken) (c .before .before .wrapped .ensures .runs);
     }
 
+primary-next-word-requires : (t : ℕ) → primary-lts.Need-next-word-requires (primary-env t) (primary-at t) primary.Post
+primary-next-word-requires t c κs = search needs
+
 primary-wrapped-requires-2 : (t : ℕ) → primary-lts.Need-wrapped-requires-2 (primary-env t) (primary-at t) primary.Post
 primary-wrapped-requires-2 t c κs =
-    let k = conversion-class _ _ (c .before .before .conversion .ensures) (c .before .if5 .left) in
-    let m = c .before .before .before .before .before .before .before .before .before .before .before .next-word .ensures .moves (k .0) (k .1) in
-    search needs
+    let k = conversion-class _ _ (c .before .before .before .conversion .ensures) (c .before .before .if5 .left) in
+    let m = c .before .before .before .before .before .before .before .before .before .before .before .before .before .before .pre .1 .1 .moves (k .0) (k .1) in
+    (omega arith, (search needs, c .before .next-word .ensures, omega arith, omega arith, omega arith))
 
 primary-same-length-6 : (t : ℕ) → primary-lts.Need-same-length-6 (primary-env t) (primary-at t) primary.Post
 primary-same-length-6 t c = search needs
@@ -714,17 +718,17 @@ primary-returns-6 : (t : ℕ) → primary-lts.Need-returns-6 (primary-env t) (pr
 primary-returns-6 t c =
     let A = c .before .before .before .before .before .before .before .before .before .before .before .before .before .before .before .before .before .args in
     record {
-      within = search needs;
+      within = omega (arith, c .before .before .wrapped2 .ensures .within, c .before .before .before .before .before .before .before .before .before .before .before .before .before .before .before .before .before .pre);
       same = c .before .before .wrapped2 .ensures .same;
-      runs = primary-conversion (A .text .now) (A .at) (A .nest) _ (c .before .before .before .before .before .before .before .before .before .before .before .before .before .before .next-word .ensures) (exprAt (A .text .now) (c .before .before .wrapped2 .last .1 .1 .1 .0)) _ _ (c .before .before .before .before .before .conversion .ensures)
-          (c .before .before .before .before .if5 .left) (conversion-class _ _ (c .before .before .before .before .before .conversion .ensures) (c .before .before .before .before .if5 .left) .1) (c .before .before .wrapped2 .ensures .runs);
+      runs = primary-conversion (A .text .now) (A .at) (A .nest) _ (c .before .before .before .before .before .before .before .before .before .before .before .before .before .before .before .before .before .pre .1 .1) (exprAt (A .text .now) (c .before .before .wrapped2 .last .1 .1 .1 .1 .0)) _ _ (c .before .before .before .before .before .before .conversion .ensures)
+          (c .before .before .before .before .before .if5 .left) (conversion-class _ _ (c .before .before .before .before .before .before .conversion .ensures) (c .before .before .before .before .before .if5 .left) .1) (c .before .before .wrapped2 .ensures .runs);
     }
 
 abbrev signed-env : ℕ → signed-lts.Claims
 signed-env t = (primary-below t, primary.Post, put-reads.Asked, put-reads.Learnt, leaf-reads.Asked, leaf-reads.Learnt)
 
 signed-primary-requires : (t : ℕ) → signed-lts.Need-primary-requires (signed-env t) (signed-at t) signed.Post
-signed-primary-requires t c κs = search needs
+signed-primary-requires t c κs = (omega arith, (search needs, c .before .before .before .pre .1 .1))
 
 signed-same-length : (t : ℕ) → signed-lts.Need-same-length (signed-env t) (signed-at t) signed.Post
 signed-same-length t c = search needs
@@ -760,7 +764,7 @@ signed-returns-2 t c =
     let A = c .before .before .before .before .before .before .before .before .before .before .before .before .before .before .before .before .args in
     let x = c .before .before .before .before .before .before .before .before .before .before .before .before .primary .ensures in
     let p = c .before .before .before .before .before .before .before .before .before .before .before .before .before .before .before .before .pre in
-    let mid = c .before .before .before .before .before .before .before .before .before .before .before .before .primary .last .1 .1 .1 .0 in
+    let mid = c .before .before .before .before .before .before .before .before .before .before .before .before .primary .last .1 .1 .1 .1 .0 in
     let new = c .before .before .before .before .put .last .0 in
     let n = c .before .before .before .before .before .before .before .before .before .before .before .before .primary .result .count + 1 in
     rw (c .leaf .ensures)
@@ -807,7 +811,7 @@ wrapped-returns-2 t c =
     let A = c .before .before .before .before .before .before .before .before .before .before .before .before .before .before .before .before .args in
     let x = c .before .before .before .before .before .before .before .before .before .before .before .before .bracketed .ensures in
     let p = c .before .before .before .before .before .before .before .before .before .before .before .before .before .before .before .before .pre in
-    let mid = c .before .before .before .before .before .before .before .before .before .before .before .before .bracketed .last .1 .1 .1 .0 in
+    let mid = c .before .before .before .before .before .before .before .before .before .before .before .before .bracketed .last .1 .1 .1 .1 .0 in
     let new = c .before .before .before .before .put .last .0 in
     let n = c .before .before .before .before .before .before .before .before .before .before .before .before .bracketed .result .count + 1 in
     rw (c .leaf .ensures)
@@ -815,4 +819,4 @@ wrapped-returns-2 t c =
     (put-wrapped (A .text .now) mid new n _ _ _ (omega arith) (omega (arith, x .0, x .1 .within, c .before .before .before .before .before .before .before .before .if1 .left, p, c .before .before .before .before .before .before .before .before .before .before .before .pool .given)) (A .kind) (omega (arith, p)) (omega (arith, p)) (omega (arith, x .1 .within)) (c .before .before .before .before .put .ensures)))
 
 pub +bracketed+expression+joined+named+operand+primary+signed+wrapped-spec : {M : Type 1} → statement M
-+bracketed+expression+joined+named+operand+primary+signed+wrapped-spec = close μ-bracketed μ-expression μ-joined μ-named μ-operand μ-primary μ-signed μ-wrapped (λ t. bracketed-lts.spec (bracketed-env t) (bracketed-at t) bracketed.Post (bracketed-next-word-requires t) (bracketed-broken-requires t) (bracketed-returns t) (bracketed-too-deep-requires t) (bracketed-returns-2 t) (bracketed-add-expression t) (bracketed-expression-requires t) (bracketed-same-length t) (bracketed-returns-3 t) (bracketed-expect-requires t) (bracketed-same-length-2 t) (bracketed-returns-4 t) (bracketed-same-length-3 t) (bracketed-returns-5 t)) (λ t. expression-lts.spec (operand-below t, operand.Post, joined-below t, joined.Post) (expression-at t) expression.Post (expression-operand-requires t) (expression-same-length t) (expression-returns t) (expression-joined-requires t) (expression-same-length-2 t) (expression-returns-2 t)) (λ t. joined-lts.spec (joined-env t) (joined-at t) joined.Post joined-Inv-loop joined-μ-loop (joined-loop-holds t) (joined-next-word-requires t) (joined-operator-requires t) (joined-level-requires t) (joined-add-expression t) (joined-expression-requires t) (joined-same-length t) (joined-returns t) (joined-add-n t) (joined-cast-put t) (joined-add-put t) (joined-cast-put-2 t) (joined-cast-put-3 t) (joined-cast-put-4 t) (joined-put-requires t) (joined-loop-less t) (joined-loop-again t) (joined-same-length-2 t) (joined-returns-2 t)) (λ t. named-lts.spec (named-env t) (named-at t) named.Post (named-next-word-requires t) (named-add-put t) (named-cast-put t) (named-put-requires t) (named-add-leaf t) (named-leaf-requires t) (named-same-length t) (named-returns t) (named-too-deep-requires t) (named-returns-2 t) (named-add-expression t) (named-expression-requires t) (named-same-length-2 t) (named-returns-3 t) (named-expect-requires t) (named-same-length-3 t) (named-returns-4 t) (named-add-put-2 t) (named-cast-put-2 t) (named-cast-put-3 t) (named-cast-put-4 t) (named-put-requires-2 t) (named-add-leaf-2 t) (named-leaf-requires-2 t) (named-same-length-4 t) (named-returns-5 t)) (λ t. operand-lts.spec (operand-env t) (operand-at t) operand.Post (operand-next-word-requires t) (operand-next-word-requires-2 t) (operand-add-put t) (operand-low-requires t) (operand-high-requires t) (operand-cast-put t) (operand-put-requires t) (operand-add-leaf t) (operand-leaf-requires t) (operand-same-length t) (operand-returns t) (operand-signed-requires t) (operand-same-length-2 t) (operand-returns-2 t) (operand-signed-requires-2 t) (operand-same-length-3 t) (operand-returns-3 t) (operand-primary-requires t) (operand-same-length-4 t) (operand-returns-4 t)) (λ t. primary-lts.spec (primary-env t) (primary-at t) primary.Post (primary-next-word-requires t) (primary-named-requires t) (primary-same-length t) (primary-returns t) (primary-add-put t) (primary-low-requires t) (primary-high-requires t) (primary-cast-put t) (primary-put-requires t) (primary-add-leaf t) (primary-leaf-requires t) (primary-same-length-2 t) (primary-returns-2 t) (primary-add-put-2 t) (primary-cast-put-2 t) (primary-put-requires-2 t) (primary-add-leaf-2 t) (primary-leaf-requires-2 t) (primary-same-length-3 t) (primary-returns-3 t) (primary-add-put-3 t) (primary-cast-put-3 t) (primary-put-requires-3 t) (primary-add-leaf-3 t) (primary-leaf-requires-3 t) (primary-same-length-4 t) (primary-returns-4 t) (primary-conversion-requires t) (primary-wrapped-requires t) (primary-same-length-5 t) (primary-returns-5 t) (primary-wrapped-requires-2 t) (primary-same-length-6 t) (primary-returns-6 t)) (λ t. signed-lts.spec (signed-env t) (signed-at t) signed.Post (signed-primary-requires t) (signed-same-length t) (signed-returns t) (signed-add-put t) (signed-cast-put t) (signed-cast-put-2 t) (signed-put-requires t) (signed-add-leaf t) (signed-leaf-requires t) (signed-same-length-2 t) (signed-returns-2 t)) λ t. wrapped-lts.spec (wrapped-env t) (wrapped-at t) wrapped.Post (wrapped-bracketed-requires t) (wrapped-same-length t) (wrapped-returns t) (wrapped-add-put t) (wrapped-cast-put t) (wrapped-cast-put-2 t) (wrapped-put-requires t) (wrapped-add-leaf t) (wrapped-leaf-requires t) (wrapped-same-length-2 t) (wrapped-returns-2 t)
++bracketed+expression+joined+named+operand+primary+signed+wrapped-spec = close μ-bracketed μ-expression μ-joined μ-named μ-operand μ-primary μ-signed μ-wrapped (λ t. bracketed-lts.spec (bracketed-env t) (bracketed-at t) bracketed.Post (bracketed-broken-requires t) (bracketed-returns t) (bracketed-too-deep-requires t) (bracketed-returns-2 t) (bracketed-add-expression t) (bracketed-expression-requires t) (bracketed-same-length t) (bracketed-returns-3 t) (bracketed-expect-requires t) (bracketed-same-length-2 t) (bracketed-returns-4 t) (bracketed-same-length-3 t) (bracketed-returns-5 t)) (λ t. expression-lts.spec (operand-below t, operand.Post, joined-below t, joined.Post) (expression-at t) expression.Post (expression-operand-requires t) (expression-same-length t) (expression-returns t) (expression-joined-requires t) (expression-same-length-2 t) (expression-returns-2 t)) (λ t. joined-lts.spec (joined-env t) (joined-at t) joined.Post joined-Inv-loop joined-μ-loop (joined-loop-holds t) (joined-next-word-requires t) (joined-operator-requires t) (joined-level-requires t) (joined-add-expression t) (joined-expression-requires t) (joined-same-length t) (joined-returns t) (joined-add-n t) (joined-cast-put t) (joined-add-put t) (joined-cast-put-2 t) (joined-cast-put-3 t) (joined-cast-put-4 t) (joined-put-requires t) (joined-loop-less t) (joined-loop-again t) (joined-same-length-2 t) (joined-returns-2 t)) (λ t. named-lts.spec (named-env t) (named-at t) named.Post (named-next-word-requires t) (named-add-put t) (named-cast-put t) (named-put-requires t) (named-add-leaf t) (named-leaf-requires t) (named-same-length t) (named-returns t) (named-too-deep-requires t) (named-returns-2 t) (named-add-expression t) (named-expression-requires t) (named-same-length-2 t) (named-returns-3 t) (named-expect-requires t) (named-same-length-3 t) (named-returns-4 t) (named-add-put-2 t) (named-cast-put-2 t) (named-cast-put-3 t) (named-cast-put-4 t) (named-put-requires-2 t) (named-add-leaf-2 t) (named-leaf-requires-2 t) (named-same-length-4 t) (named-returns-5 t)) (λ t. operand-lts.spec (operand-env t) (operand-at t) operand.Post (operand-next-word-requires t) (operand-next-word-requires-2 t) (operand-add-put t) (operand-low-requires t) (operand-high-requires t) (operand-cast-put t) (operand-put-requires t) (operand-add-leaf t) (operand-leaf-requires t) (operand-same-length t) (operand-returns t) (operand-signed-requires t) (operand-same-length-2 t) (operand-returns-2 t) (operand-next-word-requires-3 t) (operand-signed-requires-2 t) (operand-same-length-3 t) (operand-returns-3 t) (operand-primary-requires t) (operand-same-length-4 t) (operand-returns-4 t)) (λ t. primary-lts.spec (primary-env t) (primary-at t) primary.Post (primary-named-requires t) (primary-same-length t) (primary-returns t) (primary-add-put t) (primary-low-requires t) (primary-high-requires t) (primary-cast-put t) (primary-put-requires t) (primary-add-leaf t) (primary-leaf-requires t) (primary-same-length-2 t) (primary-returns-2 t) (primary-add-put-2 t) (primary-cast-put-2 t) (primary-put-requires-2 t) (primary-add-leaf-2 t) (primary-leaf-requires-2 t) (primary-same-length-3 t) (primary-returns-3 t) (primary-add-put-3 t) (primary-cast-put-3 t) (primary-put-requires-3 t) (primary-add-leaf-3 t) (primary-leaf-requires-3 t) (primary-same-length-4 t) (primary-returns-4 t) (primary-conversion-requires t) (primary-wrapped-requires t) (primary-same-length-5 t) (primary-returns-5 t) (primary-next-word-requires t) (primary-wrapped-requires-2 t) (primary-same-length-6 t) (primary-returns-6 t)) (λ t. signed-lts.spec (signed-env t) (signed-at t) signed.Post (signed-primary-requires t) (signed-same-length t) (signed-returns t) (signed-add-put t) (signed-cast-put t) (signed-cast-put-2 t) (signed-put-requires t) (signed-add-leaf t) (signed-leaf-requires t) (signed-same-length-2 t) (signed-returns-2 t)) λ t. wrapped-lts.spec (wrapped-env t) (wrapped-at t) wrapped.Post (wrapped-bracketed-requires t) (wrapped-same-length t) (wrapped-returns t) (wrapped-add-put t) (wrapped-cast-put t) (wrapped-cast-put-2 t) (wrapped-put-requires t) (wrapped-add-leaf t) (wrapped-leaf-requires t) (wrapped-same-length-2 t) (wrapped-returns-2 t)

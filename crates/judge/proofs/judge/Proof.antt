@@ -11,9 +11,6 @@ use Rattle.judge.proofs.Finishing.{sound-program, refused-early, refuse
 use Rattle.judge.proofs.judge.Statement.{statement}
 use Rattle.judge.proofs.judge.Tie as tie
 
-slice-aggregate-ruled : tie.Need-slice-aggregate-ruled
-slice-aggregate-ruled c = search needs
-
 ruled-requires : tie.Need-ruled-requires
 ruled-requires c κs = search needs
 
@@ -26,58 +23,65 @@ same-length c = search needs
 same-length-2 : tie.Need-same-length-2
 same-length-2 c = search needs
 
+same-length-3 : tie.Need-same-length-3
+same-length-3 c = search needs
+
 returns : tie.Need-returns
 returns c =
-    let s = c .before .before .before .before .before .before .before .before .ruled in
+    let s = c .before .before .before .before .before .before .before .before .before .ruled in
     refused-early _ _ _ (s .result) (s .ensures) _ (c .before .if1 .taken) (c .refused .result) (c .refused .ensures)
 
 -- the program that is sound so far
 so-far : (c : tie.After-struct-known2) →
-    let t = c .before .before .before .before .before .before .before .before .before .before .before .before .before .before .before .before .args .text .now in
-    let s = c .before .before .before .before .before .before .before .before .ruled in
+    let t = c .before .before .before .before .before .before .before .before .before .before .before .before .before .before .before .before .before .args .text .now in
+    let s = c .before .before .before .before .before .before .before .before .before .ruled in
     (pr : Program) × (sound t ≡ given pr) × Keeps t (s .last .1 .0) (s .last .1 .1 .0) pr (s .result)
 so-far c =
-    let t = c .before .before .before .before .before .before .before .before .before .before .before .before .before .before .before .before .args .text .now in
-    let s = c .before .before .before .before .before .before .before .before .ruled in
+    let t = c .before .before .before .before .before .before .before .before .before .before .before .before .before .before .before .before .before .args .text .now in
+    let s = c .before .before .before .before .before .before .before .before .before .ruled in
     sound-program t (s .last .1 .0) (s .last .1 .1 .0) (sound t) (s .result) (s .ensures) (c .before .if1 .left)
 
 mul-end : tie.Need-mul-end
-mul-end c = omega (arith, so-far c .2 .room, c .before .before .before .before .before .before .before .before .ruled .kept .1 .1 .0, c .before .before .before .before .before .before .before .before .before .before .before .before .before .before .before .before .good .1 .1 .0 .0)
+mul-end c = omega (arith, so-far c .2 .room, c .before .before .before .before .before .before .before .before .before .ruled .kept .1 .1 .0, c .before .before .before .before .before .before .before .before .before .before .before .before .before .before .before .before .before .good .1 .1 .0 .0)
 
 slice-reshare-prefix-unwind-program : tie.Need-slice-reshare-prefix-unwind-program
 slice-reshare-prefix-unwind-program c = omega (arith, so-far (c .before) .2 .room)
 
 slice-aggregate-unwind-program : tie.Need-slice-aggregate-unwind-program
 slice-aggregate-unwind-program c =
-    let s = c .before .before .before .before .before .before .before .before .before .before .ruled in
+    let s = c .before .before .before .before .before .before .before .before .before .before .before .ruled in
     sym (length-take-le (4 * s .result .variables) (s .last .1 .1 .0) (so-far (c .before .before) .2 .room))
 
 unwind-program-requires : tie.Need-unwind-program-requires
 unwind-program-requires c κs =
-    let pre = c .before .before .before .before .before .before .before .before .before .before .before .before .before .before .before .before .before .before .before .pre in
+    let s = c .before .before .before .before .before .before .before .before .before .before .before .before .ruled in
+    let pre = c .before .before .before .before .before .before .before .before .before .before .before .before .before .before .before .before .before .before .before .before .pre in
     let keeps = so-far (c .before .before .before) .2 in
-    (keeps .root, omega (arith, keeps .root, c .before .before .before .before .before .before .before .before .before .before .before .ruled .kept .1 .0, pre .1), keeps .few, pre .3, pre .4)
+    let plain = s .kept .1 .1 .1 .0 in (
+      keeps .root,
+      omega (arith, keeps .root, s .kept .1 .0, pre .nodes),
+      keeps .few,
+      omega (arith, plain, pre .plain),
+      omega (arith, plain, pre .numbered),
+    )
 
 refused-requires-2 : tie.Need-refused-requires-2
 refused-requires-2 c κs = search needs
 
-same-length-3 : tie.Need-same-length-3
-same-length-3 c = search needs
-
 same-length-4 : tie.Need-same-length-4
-same-length-4 c = search needs
+same-length-4 c = c .before .before .before .before .before .before .before .before .before .before .before .before .before .before .before .before .before .before .ruled .kept .1 .0
 
 same-length-5 : tie.Need-same-length-5
 same-length-5 c = search needs
 
-returns-2 : tie.Need-returns-2
-returns-2 c =
-    let s = c .before .before .before .before .before .before .before .before .before .before .before .before .before .before .before .before .before .ruled in
-    let u = c .before .before .before .before .before .unwind-program in
-    refused-walking _ _ _ (s .result) (s .ensures) (c .before .before .before .before .before .before .before .before .before .before .if1 .left) _ _ (u .result) (u .ensures) (c .before .if2 .taken) (c .refused2 .result) (c .refused2 .ensures)
-
 same-length-6 : tie.Need-same-length-6
 same-length-6 c = search needs
+
+returns-2 : tie.Need-returns-2
+returns-2 c =
+    let s = c .before .before .before .before .before .before .before .before .before .before .before .before .before .before .before .before .before .before .ruled in
+    let u = c .before .before .before .before .before .unwind-program in
+    refused-walking _ _ _ (s .result) (s .ensures) (c .before .before .before .before .before .before .before .before .before .before .if1 .left) _ _ (u .result) (u .ensures) (c .before .if2 .taken) (c .refused2 .result) (c .refused2 .ensures)
 
 same-length-7 : tie.Need-same-length-7
 same-length-7 c = search needs
@@ -85,32 +89,35 @@ same-length-7 c = search needs
 same-length-8 : tie.Need-same-length-8
 same-length-8 c = search needs
 
+same-length-9 : tie.Need-same-length-9
+same-length-9 c = search needs
+
 returns-3 : tie.Need-returns-3
 returns-3 c =
-    let s = c .before .before .before .before .before .before .before .before .before .before .before .before .before .before .before .before .ruled in
+    let s = c .before .before .before .before .before .before .before .before .before .before .before .before .before .before .before .before .before .ruled in
     let u = c .before .before .before .before .unwind-program in
-    stands _ _ _ (s .result) (s .ensures) (c .before .before .before .before .before .before .before .before .before .if1 .left) _ _ (u .result) (u .ensures) (c .if2 .left) (c .before .before .before .before .before .before .before .before .before .before .before .before .before .before .before .before .before .before .before .before .before .before .before .before .pre .3)
+    stands _ _ _ (s .result) (s .ensures) (c .before .before .before .before .before .before .before .before .before .if1 .left) _ _ (u .result) (u .ensures) (c .if2 .left) (omega (arith, s .kept .1 .1 .1 .0, c .before .before .before .before .before .before .before .before .before .before .before .before .before .before .before .before .before .before .before .before .before .before .before .before .before .pre .plain))
 
 pub judge-spec : {M : Type 1} → statement M
 judge-spec =
     tie.close
     (tie.spec
-    slice-aggregate-ruled
     ruled-requires
     refused-requires
     same-length
     same-length-2
+    same-length-3
     returns
     mul-end
     slice-reshare-prefix-unwind-program
     slice-aggregate-unwind-program
     unwind-program-requires
     refused-requires-2
-    same-length-3
     same-length-4
     same-length-5
-    returns-2
     same-length-6
+    returns-2
     same-length-7
     same-length-8
+    same-length-9
     returns-3)

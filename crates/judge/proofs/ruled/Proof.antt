@@ -6,7 +6,7 @@ use Rattle.judge.proofs.ruled.Statement.{statement}
 use Rattle.judge.proofs.ruled.Tie as tie
 
 shape-of-requires : tie.Need-shape-of-requires
-shape-of-requires c κs = search needs
+shape-of-requires c κs = c .before .before .before .before .before .pre .tree
 
 cast-refused : tie.Need-cast-refused
 cast-refused c =
@@ -27,8 +27,7 @@ returns c =
 rules-requires : tie.Need-rules-requires
 rules-requires c κs =
     let s = c .before .before .before .before .before .before .before .shape-of in
-    let pre = c .before .before .before .before .before .before .before .before .before .before .before .before .before .pre in
-    lies _ _ (s .result) (s .ensures) (c .before .before .before .if1 .left) (c .before .before .before .before .before .before .before .before .before .before .before .before .before .args .scratch .now) (omega (arith, s .kept .1 .0, pre .0)) (pre .2)
+    lies _ _ (s .result) (s .ensures) (c .before .before .before .if1 .left) _ _ _ (c .before .before .before .before .before .before .before .before .before .before .before .before .before .pre) (s .kept .1 .0)
 
 same-length-2 : tie.Need-same-length-2
 same-length-2 c = search needs
@@ -45,7 +44,7 @@ returns-2 c =
     let r = c .before .before .before .before .rules in
     let pre = c .before .before .before .before .before .before .before .before .before .before .before .before .before .before .before .before .before .before .pre in
     let h = c .before .before .before .before .before .before .before .before .if1 .left in
-    well-shaped _ _ (s .result) (s .ensures) h _ (r .result) (r .ensures (fits _ _ (s .result) (s .ensures) h _ _ (pre .1) (pre .2)))
+    well-shaped _ _ (s .result) (s .ensures) h _ (r .result) (r .ensures (fits _ _ (s .result) (s .ensures) h _ _ _ pre))
 
 pub ruled-spec : {M : Type 1} → statement M
 ruled-spec =

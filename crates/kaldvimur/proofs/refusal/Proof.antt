@@ -1,7 +1,7 @@
 -- `kaldvimur::refusal` meets its contract.
 use mathlib.Core.Path.{ap}
 use Rattle.paper.specs.declared.Why.{Why}
-use Rattle.kaldvimur.specs.declared.Outcome.the-variants.{Refused}
+use Rattle.lent.specs.declared.Outcome.the-variants.{Refused}
 use borrow.Author.Needs.{needs}
 use Rattle.kaldvimur.proofs.refusal.Statement.{statement}
 use Rattle.kaldvimur.proofs.refusal.Tie as tie

@@ -2,7 +2,7 @@
 use borrow.Author.Needs.{needs}
 use Rattle.paper.specs.Tables.{totalIn}
 use Rattle.paper.specs.Judge.{scanChecked}
-use Rattle.kaldvimur.proofs.Checking.{reads-checked}
+use Rattle.lent.proofs.Checking.{reads-checked}
 use Rattle.kaldvimur_c.proofs.Bounds.{scanned-by}
 use Rattle.kaldvimur_c.proofs.Codes.{is-near, tells-all}
 use Rattle.kaldvimur_c.proofs.kv_scan_checked.Statement.{statement}

@@ -2,7 +2,7 @@
 use borrow.Author.Needs.{needs}
 use Rattle.paper.specs.Tables.{tableIn}
 use Rattle.paper.specs.Judge.{scanLent}
-use Rattle.kaldvimur.proofs.Checking.{reads-lent}
+use Rattle.lent.proofs.Checking.{reads-lent}
 use Rattle.kaldvimur_c.proofs.Bounds.{scanned-by}
 use Rattle.kaldvimur_c.proofs.Codes.{is-near, tells-all}
 use Rattle.kaldvimur_c.proofs.kv_scan_table.Statement.{statement}

@@ -34,7 +34,7 @@ slice-reshare-prefix-statements c = search needs
 slice-aggregate-statements : tie.Need-slice-aggregate-statements
 slice-aggregate-statements c =
     let f = c .before .before .before .before .before .before .before .before .fill in
-    sym (length-take-le (4 * f .result .count) (f .last .1 .1 .0) (omega (arith, f .ensures .0, f .kept .1 .1 .0)))
+    sym (length-take-le (4 * f .result .count) (f .last .1 .1 .1 .0) (omega (arith, f .ensures .0, f .kept .1 .1 .1 .0)))
 
 statements-requires : tie.Need-statements-requires
 statements-requires c κs =
@@ -55,7 +55,7 @@ returns c =
     let f = c .before .before .before .before .before .before .before .before .before .before .before .before .fill in
     let s = c .before .before .before .before .before .before .before .before .declarations in
     judged (A .text .now) (A .pool .now) (A .table .now) _ (A .scratch .now) _ (A .root) _ _ (c .before .before .statements .result) (f .result) (s .result)
-    (c .before .before .before .before .before .before .before .before .before .before .before .before .before .before .child .ensures) (c .before .before .before .before .before .child2 .ensures) (f .ensures .0) (f .kept .1 .1 .0) (f .ensures .1) (s .ensures .1)
+    (c .before .before .before .before .before .before .before .before .before .before .before .before .before .before .child .ensures) (c .before .before .before .before .before .child2 .ensures) (f .ensures .0) (f .kept .1 .1 .1 .0) (f .ensures .1) (s .ensures .1)
     (c .before .before .statements .ensures .0)
 
 pub first-bad-name-spec : {M : Type 1} → statement M

@@ -34,6 +34,9 @@ put-requires-2 c κs = search needs
 sections-requires : tie.Need-sections-requires
 sections-requires c κs = search needs
 
+indexed-requires : tie.Need-indexed-requires
+indexed-requires c κs = search needs
+
 list-requires : tie.Need-list-requires
 list-requires c κs = search needs
 
@@ -44,15 +47,15 @@ put-requires-3 : tie.Need-put-requires-3
 put-requires-3 c κs = search needs
 
 same-length : tie.Need-same-length
-same-length c = (c .before .before .before .before .before .before .before .before .before .before .before .before .before .before .before .before .before .before .before .before .before .before .before .before .before .put .ensures then c .before .before .before .before .before .before .before .before .before .before .before .before .before .before .before .before .before .before .before .before .capitals .ensures then c .before .before .before .before .before .before .before .before .before .before .before .before .before .before .before .put2 .ensures then c .before .before .before .before .before .before .before .before .before .before .before .sections .ensures then c .before .before .before .before .before .before .before .list .ensures then c .before .before .put3 .ensures) .size
+same-length c = (c .before .before .before .before .before .before .before .before .before .before .before .before .before .before .before .before .before .before .before .before .before .before .before .before .before .before .before .put .ensures then c .before .before .before .before .before .before .before .before .before .before .before .before .before .before .before .before .before .before .before .before .before .before .capitals .ensures then c .before .before .before .before .before .before .before .before .before .before .before .before .before .before .before .before .before .put2 .ensures then c .before .before .before .before .before .before .before .before .before .before .before .before .before .sections .ensures then c .before .before .before .before .before .before .before .list .ensures then c .before .before .put3 .ensures) .size
 
 returns : tie.Need-returns
 unfolding bytes
 returns c =
-    let A = c .before .before .before .before .before .before .before .before .before .before .before .before .before .before .before .before .before .before .before .before .before .before .before .before .before .before .before .before .before .before .before .before .before .args in
+    let A = c .before .before .before .before .before .before .before .before .before .before .before .before .before .before .before .before .before .before .before .before .before .before .before .before .before .before .before .before .before .before .before .before .before .before .before .args in
     printed (nameAt (A .text .now) (A .name)) (entries (A .text .now) (A .pool .now) (A .table .now) (length (A .table .now) / 4))
     (listedIn (A .text .now) (A .pool .now) (A .table .now)) (listAt (A .plain .now) (A .root))
-    (named (λ k. rw (c .before .before .before .before .before .before .before .before .before .before .before .before .before .before .before .before .before .before .before .before .before .name-of .ensures)) (c .before .before .before .before .before .before .before .before .before .before .before .before .before .before .before .before .before .before .before .before .before .before .before .before .before .put .ensures then c .before .before .before .before .before .before .before .before .before .before .before .before .before .before .before .before .before .before .before .before .capitals .ensures then c .before .before .before .before .before .before .before .before .before .before .before .before .before .before .before .put2 .ensures then c .before .before .before .before .before .before .before .before .before .before .before .sections .ensures then c .before .before .before .before .before .before .before .list .ensures then c .before .before .put3 .ensures))
+    (named (λ k. rw (c .before .before .before .before .before .before .before .before .before .before .before .before .before .before .before .before .before .before .before .before .before .before .before .name-of .ensures)) (c .before .before .before .before .before .before .before .before .before .before .before .before .before .before .before .before .before .before .before .before .before .before .before .before .before .before .before .put .ensures then c .before .before .before .before .before .before .before .before .before .before .before .before .before .before .before .before .before .before .before .before .before .before .capitals .ensures then c .before .before .before .before .before .before .before .before .before .before .before .before .before .before .before .before .before .put2 .ensures then c .before .before .before .before .before .before .before .before .before .before .before .before .before .sections .ensures then c .before .before .before .before .before .before .before .list .ensures then c .before .before .put3 .ensures))
 
 pub print-spec : {M : Type 1} → statement M
 print-spec =
@@ -65,6 +68,7 @@ print-spec =
     slice-aggregate-put-2
     put-requires-2
     sections-requires
+    indexed-requires
     list-requires
     slice-aggregate-put-3
     put-requires-3

@@ -21,7 +21,9 @@ enum-told : tie.Need-enum-told
 enum-told c = search needs
 
 program-requires : tie.Need-program-requires
-program-requires c κs = search needs
+program-requires c κs =
+    let short = c .before .before .before .before .if1 .left in
+    (short, c .before .before .before .before .before .before .before .pre short)
 
 same-length : tie.Need-same-length
 same-length c = search needs

@@ -8,6 +8,7 @@ use native.Mathlib.Omega.{arith}
 use lib.ListN.{length}
 use borrow.Author.Tests.{eqb-true, eqb-false, not-true, not-false}
 use Rattle.expressions.proofs.Moves.{class-moves}
+use Rattle.words.specs.Denoted.{IsWord}
 use Rattle.statements.specs.Lists.{ListDid}
 use Rattle.statements.proofs.Rooms.{Spare, Turn, begun, turned}
 use Rattle.statements.proofs.Lists.{list-bad, list-open, list-stop, list-on}
@@ -52,6 +53,7 @@ use Rattle.statements.proofs.statement.Kinds as statement-kinds
 use Rattle.statements.proofs.+arms+branch+branches+cases+closing+list+more_arms+otherwise+repeat+statement.Lts-statement as statement-lts
 use Rattle.statements.proofs.assignment.Reads as assignment-reads
 use Rattle.expressions.proofs.expect.Reads as expect-reads
+use Rattle.expressions.proofs.expected.Reads as expected-reads
 use Rattle.expressions.proofs.expression.Reads as expression-reads
 use Rattle.statements.proofs.head.Reads as head-reads
 use Rattle.statements.proofs.labels.Reads as labels-reads
@@ -410,108 +412,110 @@ cases-returns-4 t c =
     cases-good (c .before .before .before .before .before .before .before .before .before .before .before .before .before .before .before .before .before .before .before .before .before .before .before .before .before .before .args .depth) (c .before .before .before .before .before .before .before .before .before .before .before .before .before .before .before .before .before .before .before .before .before .before .before .before .before .before .args .p) (c .before .before .before .before .before .before .before .before .before .before .before .before .before .before .before .before .before .before .before .before .before .before .expression .ensures) (c .before .before .before .before .before .before .before .before .before .before .before .before .before .before .before .before .before .before .if1 .left) (c .before .before .before .before .before .before .before .before .before .before .before .before .before .before .before .before .before .expect .ensures) (c .before .before .before .before .before .before .before .before .before .before .before .before .before .before .before .if2 .left) (c .before .before .before .before .before .before .before .before .before .before .before .before .before .arms .ensures) (c .before .before .before .before .before .before .before .before .before .if3 .left) (cases-spare t (c .before .before .before .before .before .before .before .before .before) .0) (c .before .before .before .before .put .ensures) (c .leaf .ensures)
 
 abbrev closing-env : ℕ → closing-lts.Claims
-closing-env t = (next-word-reads.Asked, next-word-reads.Learnt, expect-reads.Asked, expect-reads.Learnt, list-below t, list.Post)
+closing-env t = (expected-reads.Asked, expected-reads.Learnt, list-below t, list.Post, expect-reads.Asked, expect-reads.Learnt)
 
-closing-next-word-requires : (t : ℕ) → closing-lts.Need-next-word-requires (closing-env t) (closing-at t) closing.Post
-closing-next-word-requires t c κs = search needs
-
-closing-expect-requires : (t : ℕ) → closing-lts.Need-expect-requires (closing-env t) (closing-at t) closing.Post
-closing-expect-requires t c κs = search needs
+closing-expected-requires : (t : ℕ) → closing-lts.Need-expected-requires (closing-env t) (closing-at t) closing.Post
+closing-expected-requires t c κs = search needs
 
 closing-returns : (t : ℕ) → closing-lts.Need-returns (closing-env t) (closing-at t) closing.Post
 closing-returns t c =
-    closing-plain (c .before .before .before .before .before .before .args .depth) (c .before .before .before .before .before .before .args .class) (c .before .before .before .next-word .ensures) (c .before .if1 .taken) (c .expect .ensures)
+    closing-plain (c .before .before .before .before .before .args .depth) (c .before .before .before .before .before .args .class) (c .before .before .before .before .before .pre .1 .1) (c .before .if1 .taken) (c .expected .ensures (c .before .before .before .before .before .args .text .now) (c .before .before .before .before .before .args .at) (c .before .before .before .before .before .pre .1 .1))
 
 closing-add-list : (t : ℕ) → closing-lts.Need-add-list (closing-env t) (closing-at t) closing.Post
 closing-add-list t c = search needs
 
 closing-list-requires : (t : ℕ) → closing-lts.Need-list-requires (closing-env t) (closing-at t) closing.Post
-closing-list-requires t c κs = omega (arith, class-moves (c .before .before .before .before .before .before .args .text .now) (c .before .before .before .before .before .before .args .at) (c .before .before .before .next-word .result) (c .before .before .before .next-word .ensures) 14 (c .before .if1 .left) refl refl)
+closing-list-requires t c κs = omega (arith, class-moves (c .before .before .before .before .before .args .text .now) (c .before .before .before .before .before .args .at) (c .before .before .before .before .before .args .w) (c .before .before .before .before .before .pre .1 .1) 14 (c .before .if1 .left) refl refl)
 
 closing-same-length : (t : ℕ) → closing-lts.Need-same-length (closing-env t) (closing-at t) closing.Post
 closing-same-length t c = search needs
 
 closing-returns-2 : (t : ℕ) → closing-lts.Need-returns-2 (closing-env t) (closing-at t) closing.Post
 closing-returns-2 t c =
-    closing-bad (c .before .before .before .before .before .before .before .before .before .before .before .args .depth) (c .before .before .before .before .before .before .before .before .before .before .before .args .class) (c .before .before .before .before .before .before .before .before .next-word .ensures) (c .before .before .before .before .before .before .if1 .left) (c .before .before .before .before .list .ensures) (c .if2 .taken)
+    closing-bad (c .before .before .before .before .before .before .before .before .before .before .args .depth) (c .before .before .before .before .before .before .before .before .before .before .args .class) (c .before .before .before .before .before .before .before .before .before .before .pre .1 .1) (c .before .before .before .before .before .before .if1 .left) (c .before .before .before .before .list .ensures) (c .if2 .taken)
 
-closing-expect-requires-2 : (t : ℕ) → closing-lts.Need-expect-requires-2 (closing-env t) (closing-at t) closing.Post
-closing-expect-requires-2 t c κs = search needs
+closing-expect-requires : (t : ℕ) → closing-lts.Need-expect-requires (closing-env t) (closing-at t) closing.Post
+closing-expect-requires t c κs = search needs
 
 closing-same-length-2 : (t : ℕ) → closing-lts.Need-same-length-2 (closing-env t) (closing-at t) closing.Post
 closing-same-length-2 t c = search needs
 
 closing-returns-3 : (t : ℕ) → closing-lts.Need-returns-3 (closing-env t) (closing-at t) closing.Post
 closing-returns-3 t c =
-    closing-open (c .before .before .before .before .before .before .before .before .before .before .before .before .before .before .args .depth) (c .before .before .before .before .before .before .before .before .before .before .before .before .before .before .args .class) (c .before .before .before .before .before .before .before .before .before .before .before .next-word .ensures) (c .before .before .before .before .before .before .before .before .before .if1 .left) (c .before .before .before .before .before .before .before .list .ensures) (c .before .before .before .if2 .left) (c .before .before .expect2 .ensures) (c .if3 .taken)
+    closing-open (c .before .before .before .before .before .before .before .before .before .before .before .before .before .args .depth) (c .before .before .before .before .before .before .before .before .before .before .before .before .before .args .class) (c .before .before .before .before .before .before .before .before .before .before .before .before .before .pre .1 .1) (c .before .before .before .before .before .before .before .before .before .if1 .left) (c .before .before .before .before .before .before .before .list .ensures) (c .before .before .before .if2 .left) (c .before .before .expect .ensures) (c .if3 .taken)
 
 closing-same-length-3 : (t : ℕ) → closing-lts.Need-same-length-3 (closing-env t) (closing-at t) closing.Post
 closing-same-length-3 t c = search needs
 
 closing-returns-4 : (t : ℕ) → closing-lts.Need-returns-4 (closing-env t) (closing-at t) closing.Post
 closing-returns-4 t c =
-    closing-good (c .before .before .before .before .before .before .before .before .before .before .before .before .before .before .args .depth) (c .before .before .before .before .before .before .before .before .before .before .before .before .before .before .args .class) (c .before .before .before .before .before .before .before .before .before .before .before .next-word .ensures) (c .before .before .before .before .before .before .before .before .before .if1 .left) (c .before .before .before .before .before .before .before .list .ensures) (c .before .before .before .if2 .left) (c .before .before .expect2 .ensures) (c .if3 .left) refl
+    closing-good (c .before .before .before .before .before .before .before .before .before .before .before .before .before .args .depth) (c .before .before .before .before .before .before .before .before .before .before .before .before .before .args .class) (c .before .before .before .before .before .before .before .before .before .before .before .before .before .pre .1 .1) (c .before .before .before .before .before .before .before .before .before .if1 .left) (c .before .before .before .before .before .before .before .list .ensures) (c .before .before .before .if2 .left) (c .before .before .expect .ensures) (c .if3 .left) refl
 
 abbrev list-Inv-loop : list-lts.InvT-loop
-list-Inv-loop text at depth pool₀ count before from₀ nodes₀ root₀ pool from nodes root = Turn (λ old new a n b r. ListDid text old new a depth n b r) text pool₀ at count before pool from nodes root
+list-Inv-loop text at depth pool₀ count before from₀ nodes₀ root₀ w₀ pool from nodes root w = Turn (λ old new a n b r. ListDid text old new a depth n b r) text pool₀ at count before pool from nodes root × IsWord text from w
 
 abbrev list-μ-loop : list-lts.MeasureT-loop
-list-μ-loop text at depth pool₀ count before from₀ nodes₀ root₀ pool from nodes root = length text - from
+list-μ-loop text at depth pool₀ count before from₀ nodes₀ root₀ w₀ pool from nodes root w = length text - from
 
 abbrev list-env : ℕ → list-lts.Claims
-list-env t = (statement-below t, statement′.Post, expect-reads.Asked, expect-reads.Learnt, linked-reads.Asked, linked-reads.Learnt, next-word-reads.Asked, next-word-reads.Learnt, starts-reads.Asked, starts-reads.Learnt)
-
-list-loop-holds : (t : ℕ) → list-lts.Need-loop-holds (list-env t) (list-at t) list.Post list-Inv-loop list-μ-loop
-list-loop-holds t c = begun (c .before .before .pre .1 .0) (c .before .before .pre .1 .1)
-
-list-statement-requires : (t : ℕ) → list-lts.Need-statement-requires (list-env t) (list-at t) list.Post list-Inv-loop list-μ-loop
-list-statement-requires t c κs = omega (arith, c .before .loop .inv .room, c .before .loop .inv .from, c .before .before .before .before .pre)
-
-list-same-length : (t : ℕ) → list-lts.Need-same-length (list-env t) (list-at t) list.Post list-Inv-loop list-μ-loop
-list-same-length t c = omega (arith, c .before .before .before .before .statement .kept, c .before .before .before .before .before .before .loop .inv .long)
-
-list-returns : (t : ℕ) → list-lts.Need-returns (list-env t) (list-at t) list.Post list-Inv-loop list-μ-loop
-list-returns t c = c .before .before .before .before .before .before .loop .inv .on (list-bad (c .before .before .before .before .before .before .before .before .before .args .depth) (c .before .before .before .before .before .before .loop .root) (c .before .before .before .before .statement .ensures) (c .if1 .taken))
-
-list-expect-requires : (t : ℕ) → list-lts.Need-expect-requires (list-env t) (list-at t) list.Post list-Inv-loop list-μ-loop
-list-expect-requires t c κs = omega (arith, c .before .before .before .before .before .before .loop .inv .room, c .before .before .before .before .statement .ensures .within)
-
-list-same-length-2 : (t : ℕ) → list-lts.Need-same-length-2 (list-env t) (list-at t) list.Post list-Inv-loop list-μ-loop
-list-same-length-2 t c = omega (arith, c .before .before .before .before .before .before .before .statement .kept, c .before .before .before .before .before .before .before .before .before .loop .inv .long)
-
-list-returns-2 : (t : ℕ) → list-lts.Need-returns-2 (list-env t) (list-at t) list.Post list-Inv-loop list-μ-loop
-list-returns-2 t c = c .before .before .before .before .before .before .before .before .before .loop .inv .on (list-open (c .before .before .before .before .before .before .before .before .before .before .before .before .args .depth) (c .before .before .before .before .before .before .before .before .before .loop .root) (c .before .before .before .before .before .before .before .statement .ensures) (c .before .before .before .if1 .left) (c .before .before .expect .ensures) (c .if2 .taken))
-
-list-linked-requires : (t : ℕ) → list-lts.Need-linked-requires (list-env t) (list-at t) list.Post list-Inv-loop list-μ-loop
-list-linked-requires t c κs = omega (arith, c .before .before .before .before .before .before .before .before .before .before .loop .inv .room, c .before .before .before .before .before .before .before .before .before .before .loop .inv .rooted, c .before .before .before .before .before .before .before .before .statement .ensures .within, c .before .before .before .before .before .before .before .before .statement .kept, c .before .before .before .expect .ensures .within, c .before .before .before .expect .ensures .step refl refl, c .before .before .before .expect .ensures .count)
+list-env t = (next-word-reads.Asked, next-word-reads.Learnt, statement-below t, statement′.Post, expect-reads.Asked, expect-reads.Learnt, linked-reads.Asked, linked-reads.Learnt, starts-reads.Asked, starts-reads.Learnt)
 
 list-next-word-requires : (t : ℕ) → list-lts.Need-next-word-requires (list-env t) (list-at t) list.Post list-Inv-loop list-μ-loop
-list-next-word-requires t c κs = omega (arith, c .before .before .before .before .before .before .before .before .before .before .before .before .before .loop .inv .room, c .before .before .before .before .before .before .expect .ensures .within)
+list-next-word-requires t c κs = search needs
+
+list-loop-holds : (t : ℕ) → list-lts.Need-loop-holds (list-env t) (list-at t) list.Post list-Inv-loop list-μ-loop
+list-loop-holds t c = (begun (c .before .before .before .pre .1 .0) (c .before .before .before .pre .1 .1), c .next-word .ensures)
+
+list-statement-requires : (t : ℕ) → list-lts.Need-statement-requires (list-env t) (list-at t) list.Post list-Inv-loop list-μ-loop
+list-statement-requires t c κs = (omega (arith, c .before .loop .inv .0 .room, c .before .loop .inv .0 .from, c .before .before .before .before .before .pre), (c .before .loop .inv .0 .room, c .before .loop .inv .1))
+
+list-same-length : (t : ℕ) → list-lts.Need-same-length (list-env t) (list-at t) list.Post list-Inv-loop list-μ-loop
+list-same-length t c = omega (arith, c .before .before .before .before .statement .kept, c .before .before .before .before .before .before .loop .inv .0 .long)
+
+list-returns : (t : ℕ) → list-lts.Need-returns (list-env t) (list-at t) list.Post list-Inv-loop list-μ-loop
+list-returns t c = c .before .before .before .before .before .before .loop .inv .0 .on (list-bad (c .before .before .before .before .before .before .before .before .before .before .args .depth) (c .before .before .before .before .before .before .loop .root) (c .before .before .before .before .statement .ensures) (c .if1 .taken))
+
+list-expect-requires : (t : ℕ) → list-lts.Need-expect-requires (list-env t) (list-at t) list.Post list-Inv-loop list-μ-loop
+list-expect-requires t c κs = omega (arith, c .before .before .before .before .before .before .loop .inv .0 .room, c .before .before .before .before .statement .ensures .within)
+
+list-same-length-2 : (t : ℕ) → list-lts.Need-same-length-2 (list-env t) (list-at t) list.Post list-Inv-loop list-μ-loop
+list-same-length-2 t c = omega (arith, c .before .before .before .before .before .before .before .statement .kept, c .before .before .before .before .before .before .before .before .before .loop .inv .0 .long)
+
+list-returns-2 : (t : ℕ) → list-lts.Need-returns-2 (list-env t) (list-at t) list.Post list-Inv-loop list-μ-loop
+list-returns-2 t c = c .before .before .before .before .before .before .before .before .before .loop .inv .0 .on (list-open (c .before .before .before .before .before .before .before .before .before .before .before .before .before .args .depth) (c .before .before .before .before .before .before .before .before .before .loop .root) (c .before .before .before .before .before .before .before .statement .ensures) (c .before .before .before .if1 .left) (c .before .before .expect .ensures) (c .if2 .taken))
+
+list-linked-requires : (t : ℕ) → list-lts.Need-linked-requires (list-env t) (list-at t) list.Post list-Inv-loop list-μ-loop
+list-linked-requires t c κs = omega (arith, c .before .before .before .before .before .before .before .before .before .before .loop .inv .0 .room, c .before .before .before .before .before .before .before .before .before .before .loop .inv .0 .rooted, c .before .before .before .before .before .before .before .before .statement .ensures .within, c .before .before .before .before .before .before .before .before .statement .kept, c .before .before .before .expect .ensures .within, c .before .before .before .expect .ensures .step refl refl, c .before .before .before .expect .ensures .count)
+
+list-next-word-requires-2 : (t : ℕ) → list-lts.Need-next-word-requires-2 (list-env t) (list-at t) list.Post list-Inv-loop list-μ-loop
+list-next-word-requires-2 t c κs = omega (arith, c .before .before .before .before .before .before .before .before .before .before .before .before .before .loop .inv .0 .room, c .before .before .before .before .before .before .expect .ensures .within)
 
 list-starts-requires : (t : ℕ) → list-lts.Need-starts-requires (list-env t) (list-at t) list.Post list-Inv-loop list-μ-loop
 list-starts-requires t c κs = search needs
 
 list-loop-less : (t : ℕ) → list-lts.Need-loop-less (list-env t) (list-at t) list.Post list-Inv-loop list-μ-loop
-list-loop-less t c = omega (arith, c .before .before .before .before .before .before .before .before .before .before .before .before .before .before .before .before .loop .inv .room, c .before .before .before .before .before .before .before .before .before .before .before .before .before .before .statement .ensures .within, c .before .before .before .before .before .before .before .before .before .expect .ensures .within, c .before .before .before .before .before .before .before .before .before .expect .ensures .step refl refl)
+list-loop-less t c = omega (arith, c .before .before .before .before .before .before .before .before .before .before .before .before .before .before .before .before .loop .inv .0 .room, c .before .before .before .before .before .before .before .before .before .before .before .before .before .before .statement .ensures .within, c .before .before .before .before .before .before .before .before .before .expect .ensures .within, c .before .before .before .before .before .before .before .before .before .expect .ensures .step refl refl)
 
 list-loop-again : (t : ℕ) → list-lts.Need-loop-again (list-env t) (list-at t) list.Post list-Inv-loop list-μ-loop
 list-loop-again t c =
     let L = c .before .before .before .before .before .before .before .before .before .before .before .before .before .before .before .before .loop in
     let s = c .before .before .before .before .before .before .before .before .before .before .before .before .before .before .statement .ensures .within in
     let e = c .before .before .before .before .before .before .before .before .before .expect .ensures in
-    let l = c .before .before .before .before .before .linked .ensures in
-    turned (L .inv) (omega (arith, L .inv .room, s, c .before .before .before .before .before .before .before .before .before .before .before .before .before .before .statement .kept, e .within, e .step refl refl, e .count, l .more, l .few, c .before .before .before .before .before .linked .kept))
-    (l .rooted) (omega (arith, s, e .within)) (omega (arith, c .before .before .before .before .before .before .before .before .before .before .before .before .before .before .statement .kept, c .before .before .before .before .before .linked .kept))
-    (λ end r x. list-on (c .before .before .before .before .before .before .before .before .before .before .before .before .before .before .before .before .before .before .before .args .depth) (L .root) (c .before .before .before .before .before .before .before .before .before .before .before .before .before .before .statement .ensures) (c .before .before .before .before .before .before .before .before .before .before .if1 .left) e (c .before .before .before .before .before .before .before .if2 .left) l (L .inv .rooted) (c .before .before .next-word .ensures) (c .before .starts .result) (c .before .starts .ensures) (not-false (c .before .starts .result) (c .if3 .left)) x)
+    let l = c .before .before .before .before .before .linked .ensures in (
+      turned (L .inv .0) (omega (arith, L .inv .0 .room, s, c .before .before .before .before .before .before .before .before .before .before .before .before .before .before .statement .kept, e .within, e .step refl refl, e .count, l .more, l .few, c .before .before .before .before .before .linked .kept))
+          (l .rooted) (omega (arith, s, e .within)) (omega (arith, c .before .before .before .before .before .before .before .before .before .before .before .before .before .before .statement .kept, c .before .before .before .before .before .linked .kept))
+          (λ end r x. list-on (c .before .before .before .before .before .before .before .before .before .before .before .before .before .before .before .before .before .before .before .before .args .depth) (L .root) (c .before .before .before .before .before .before .before .before .before .before .before .before .before .before .statement .ensures) (c .before .before .before .before .before .before .before .before .before .before .if1 .left) e (c .before .before .before .before .before .before .before .if2 .left) l (L .inv .0 .rooted) (c .before .before .next-word2 .ensures) (c .before .starts .result) (c .before .starts .ensures) (not-false (c .before .starts .result) (c .if3 .left)) x),
+      c .before .before .next-word2 .ensures,
+    )
 
 list-same-length-3 : (t : ℕ) → list-lts.Need-same-length-3 (list-env t) (list-at t) list.Post list-Inv-loop list-μ-loop
-list-same-length-3 t c = omega (arith, c .before .before .before .before .before .linked .kept, c .before .before .before .before .before .before .before .before .before .before .before .before .before .before .statement .kept, c .before .before .before .before .before .before .before .before .before .before .before .before .before .before .before .before .loop .inv .long)
+list-same-length-3 t c = omega (arith, c .before .before .before .before .before .linked .kept, c .before .before .before .before .before .before .before .before .before .before .before .before .before .before .statement .kept, c .before .before .before .before .before .before .before .before .before .before .before .before .before .before .before .before .loop .inv .0 .long)
 
 list-returns-3 : (t : ℕ) → list-lts.Need-returns-3 (list-env t) (list-at t) list.Post list-Inv-loop list-μ-loop
 list-returns-3 t c =
     let L = c .before .before .before .before .before .before .before .before .before .before .before .before .before .before .before .before .loop in
-    L .inv .on
-    (list-stop (c .before .before .before .before .before .before .before .before .before .before .before .before .before .before .before .before .before .before .before .args .depth) (L .root) (c .before .before .before .before .before .before .before .before .before .before .before .before .before .before .statement .ensures) (c .before .before .before .before .before .before .before .before .before .before .if1 .left) (c .before .before .before .before .before .before .before .before .before .expect .ensures) (c .before .before .before .before .before .before .before .if2 .left) (c .before .before .before .before .before .linked .ensures) (L .inv .rooted) (c .before .before .next-word .ensures) (c .before .starts .result) (c .before .starts .ensures) (not-true (c .before .starts .result) (c .if3 .taken)) refl)
+    L .inv .0 .on
+    (list-stop (c .before .before .before .before .before .before .before .before .before .before .before .before .before .before .before .before .before .before .before .before .args .depth) (L .root) (c .before .before .before .before .before .before .before .before .before .before .before .before .before .before .statement .ensures) (c .before .before .before .before .before .before .before .before .before .before .if1 .left) (c .before .before .before .before .before .before .before .before .before .expect .ensures) (c .before .before .before .before .before .before .before .if2 .left) (c .before .before .before .before .before .linked .ensures) (L .inv .0 .rooted) (c .before .before .next-word2 .ensures) (c .before .starts .result) (c .before .starts .ensures) (not-true (c .before .starts .result) (c .if3 .taken)) refl)
 
 abbrev more-arms-env : ℕ → more-arms-lts.Claims
 more-arms-env t = (next-word-reads.Asked, next-word-reads.Learnt, arms-below t, arms.Post, closing-below t, closing.Post, else-list-reads.Asked, else-list-reads.Learnt)
@@ -536,11 +540,11 @@ more-arms-returns t c =
     (c .before .before .before .before .if1 .came)
 
 more-arms-closing-requires : (t : ℕ) → more-arms-lts.Need-closing-requires (more-arms-env t) (more-arms-at t) more-arms.Post
-more-arms-closing-requires t c κs = search needs
+more-arms-closing-requires t c κs = (omega arith, (search needs, c .before .before .before .before .before .next-word .ensures, omega arith))
 
 -- room for the node of the ELSE list
 more-arms-spare : (t : ℕ) (c : more-arms-lts.After-else-list-arg (more-arms-env t) (more-arms-at t) more-arms.Post) → c .before .before .before .closing .result .code ≡ 0
-    → Spare (c .before .before .before .before .before .before .before .before .before .before .before .before .args .text .now) (c .before .before .before .closing .last .1 .1 .1 .0) (c .before .before .before .before .before .before .before .before .before .before .before .before .args .at) (c .before .before .before .before .before .before .before .before .before .before .before .before .args .count) (c .before .before .before .closing .result .at) (c .before .before .before .closing .result .count)
+    → Spare (c .before .before .before .before .before .before .before .before .before .before .before .before .args .text .now) (c .before .before .before .closing .last .1 .1 .1 .1 .0) (c .before .before .before .before .before .before .before .before .before .before .before .before .args .at) (c .before .before .before .before .before .before .before .before .before .before .before .before .args .count) (c .before .before .before .closing .result .at) (c .before .before .before .closing .result .count)
 more-arms-spare t c z = omega (arith, c .before .before .before .before .before .before .before .before .before .before .before .before .pre, c .before .before .before .closing .kept, c .before .before .before .closing .ensures .0 refl refl, c .before .before .before .closing .ensures .1 "END_CASE" key-end-case .within, z)
 
 more-arms-else-list-requires : (t : ℕ) → more-arms-lts.Need-else-list-requires (more-arms-env t) (more-arms-at t) more-arms.Post
@@ -574,7 +578,7 @@ otherwise-returns t c =
     otherwise-elsif (c .before .before .before .before .before .before .before .before .before .args .depth) (c .before .before .before .before .before .before .before .before .before .args .q) (c .before .before .before .before .before .before .next-word .ensures) (c .before .before .before .before .if1 .taken) (c .before .before .branch .ensures)
 
 otherwise-closing-requires : (t : ℕ) → otherwise-lts.Need-closing-requires (otherwise-env t) (otherwise-at t) otherwise.Post
-otherwise-closing-requires t c κs = search needs
+otherwise-closing-requires t c κs = (omega arith, (search needs, c .before .before .before .next-word .ensures, omega arith))
 
 otherwise-same-length-2 : (t : ℕ) → otherwise-lts.Need-same-length-2 (otherwise-env t) (otherwise-at t) otherwise.Post
 otherwise-same-length-2 t c = search needs
@@ -652,21 +656,18 @@ repeat-returns-4 t c =
     repeat-good (c .before .before .before .before .before .before .before .before .before .before .before .before .before .before .before .before .before .before .before .before .before .before .before .before .before .before .args .depth) (c .before .before .before .before .before .before .before .before .before .before .before .before .before .before .before .before .before .before .before .before .before .before .before .before .before .before .args .p) (c .before .before .before .before .before .before .before .before .before .before .before .before .before .before .before .before .before .before .before .before .before .before .head .ensures) (c .before .before .before .before .before .before .before .before .before .before .before .before .before .before .before .before .before .before .if1 .left) (c .before .before .before .before .before .before .before .before .before .before .before .before .before .before .before .before .list .ensures) (c .before .before .before .before .before .before .before .before .before .before .before .before .if2 .left) (c .before .before .before .before .before .before .before .before .before .before .before .expect .ensures) (c .before .before .before .before .before .before .before .before .before .if3 .left) (repeat-spare t (c .before .before .before .before .before .before .before .before .before) .0) (c .before .before .before .before .put .ensures) (c .leaf .ensures)
 
 abbrev statement-env : ℕ → statement-lts.Claims
-statement-env t = (next-word-reads.Asked, next-word-reads.Learnt, starts-reads.Asked, starts-reads.Learnt, assignment-reads.Asked, assignment-reads.Learnt, branch-below t, branch.Post, cases-below t, cases.Post, repeat-below t, repeat.Post)
-
-statement-next-word-requires : (t : ℕ) → statement-lts.Need-next-word-requires (statement-env t) (statement-at t) statement′.Post
-statement-next-word-requires t c κs = search needs
+statement-env t = (starts-reads.Asked, starts-reads.Learnt, assignment-reads.Asked, assignment-reads.Learnt, branch-below t, branch.Post, cases-below t, cases.Post, repeat-below t, repeat.Post)
 
 statement-starts-requires : (t : ℕ) → statement-lts.Need-starts-requires (statement-env t) (statement-at t) statement′.Post
 statement-starts-requires t c κs = search needs
 
 statement-returns : (t : ℕ) → statement-lts.Need-returns (statement-env t) (statement-at t) statement′.Post
 statement-returns t c =
-    statement-none (c .before .before .before .before .before .args .depth) (c .before .before .next-word .ensures) (c .before .starts .result) (c .before .starts .ensures) (not-true (c .before .starts .result) (c .if1 .taken)) refl
+    statement-none (c .before .before .before .before .args .depth) (c .before .before .before .before .pre .1 .1) (c .before .starts .result) (c .before .starts .ensures) (not-true (c .before .starts .result) (c .if1 .taken)) refl
 
 statement-returns-2 : (t : ℕ) → statement-lts.Need-returns-2 (statement-env t) (statement-at t) statement′.Post
 statement-returns-2 t c =
-    statement-deep (c .before .before .before .before .before .before .args .depth) (c .before .before .before .next-word .ensures) (c .before .before .starts .result) (c .before .before .starts .ensures) (not-false (c .before .before .starts .result) (c .before .if1 .left)) (c .if2 .taken) refl
+    statement-deep (c .before .before .before .before .before .args .depth) (c .before .before .before .before .before .pre .1 .1) (c .before .before .starts .result) (c .before .before .starts .ensures) (not-false (c .before .before .starts .result) (c .before .if1 .left)) (c .if2 .taken) refl
 
 statement-assignment-requires : (t : ℕ) → statement-lts.Need-assignment-requires (statement-env t) (statement-at t) statement′.Post
 statement-assignment-requires t c κs = search needs
@@ -676,7 +677,7 @@ statement-same-length t c = search needs
 
 statement-returns-3 : (t : ℕ) → statement-lts.Need-returns-3 (statement-env t) (statement-at t) statement′.Post
 statement-returns-3 t c =
-    statement-name (c .before .before .before .before .before .before .before .before .before .before .before .before .args .depth) (c .before .before .before .before .before .before .before .before .before .next-word .ensures) (c .before .before .before .before .before .before .if2 .left) (c .before .before .before .before .if3 .taken) (c .before .before .assignment .ensures)
+    statement-name (c .before .before .before .before .before .before .before .before .before .before .before .args .depth) (c .before .before .before .before .before .before .before .before .before .before .before .pre .1 .1) (c .before .before .before .before .before .before .if2 .left) (c .before .before .before .before .if3 .taken) (c .before .before .assignment .ensures)
 
 statement-branch-requires : (t : ℕ) → statement-lts.Need-branch-requires (statement-env t) (statement-at t) statement′.Post
 statement-branch-requires t c κs = search needs
@@ -686,7 +687,7 @@ statement-same-length-2 t c = search needs
 
 statement-returns-4 : (t : ℕ) → statement-lts.Need-returns-4 (statement-env t) (statement-at t) statement′.Post
 statement-returns-4 t c =
-    statement-if (c .before .before .before .before .before .before .before .before .before .before .before .before .before .before .args .depth) (c .before .before .before .before .before .before .before .before .before .before .before .next-word .ensures) (c .before .before .before .before .before .before .before .before .if2 .left) (c .before .before .before .before .if4 .taken) (c .before .before .branch .ensures)
+    statement-if (c .before .before .before .before .before .before .before .before .before .before .before .before .before .args .depth) (c .before .before .before .before .before .before .before .before .before .before .before .before .before .pre .1 .1) (c .before .before .before .before .before .before .before .before .if2 .left) (c .before .before .before .before .if4 .taken) (c .before .before .branch .ensures)
 
 statement-cases-requires : (t : ℕ) → statement-lts.Need-cases-requires (statement-env t) (statement-at t) statement′.Post
 statement-cases-requires t c κs = search needs
@@ -696,21 +697,21 @@ statement-same-length-3 t c = search needs
 
 statement-returns-5 : (t : ℕ) → statement-lts.Need-returns-5 (statement-env t) (statement-at t) statement′.Post
 statement-returns-5 t c =
-    statement-case (c .before .before .before .before .before .before .before .before .before .before .before .before .before .before .before .before .args .depth) (c .before .before .before .before .before .before .before .before .before .before .before .before .before .next-word .ensures) (c .before .before .before .before .before .before .before .before .before .before .if2 .left) (c .before .before .before .before .if5 .taken) (c .before .before .cases .ensures)
+    statement-case (c .before .before .before .before .before .before .before .before .before .before .before .before .before .before .before .args .depth) (c .before .before .before .before .before .before .before .before .before .before .before .before .before .before .before .pre .1 .1) (c .before .before .before .before .before .before .before .before .before .before .if2 .left) (c .before .before .before .before .if5 .taken) (c .before .before .cases .ensures)
 
 statement-repeat-requires : (t : ℕ) → statement-lts.Need-repeat-requires (statement-env t) (statement-at t) statement′.Post
-statement-repeat-requires t c κs = omega (arith, class-moves (c .before .before .before .before .before .before .before .before .before .before .before .before .before .before .before .args .text .now) (c .before .before .before .before .before .before .before .before .before .before .before .before .before .before .before .args .at) (c .before .before .before .before .before .before .before .before .before .before .before .before .next-word .result) (c .before .before .before .before .before .before .before .before .before .before .before .before .next-word .ensures) 18 (c .before .if6 .taken) refl refl)
+statement-repeat-requires t c κs = omega (arith, class-moves (c .before .before .before .before .before .before .before .before .before .before .before .before .before .before .args .text .now) (c .before .before .before .before .before .before .before .before .before .before .before .before .before .before .args .at) (c .before .before .before .before .before .before .before .before .before .before .before .before .before .before .args .w) (c .before .before .before .before .before .before .before .before .before .before .before .before .before .before .pre .1 .1) 18 (c .before .if6 .taken) refl refl)
 
 statement-same-length-4 : (t : ℕ) → statement-lts.Need-same-length-4 (statement-env t) (statement-at t) statement′.Post
 statement-same-length-4 t c = search needs
 
 statement-returns-6 : (t : ℕ) → statement-lts.Need-returns-6 (statement-env t) (statement-at t) statement′.Post
 statement-returns-6 t c =
-    statement-for (c .before .before .before .before .before .before .before .before .before .before .before .before .before .before .before .before .before .before .args .depth) (c .before .before .before .before .before .before .before .before .before .before .before .before .before .before .before .next-word .ensures) (c .before .before .before .before .before .before .before .before .before .before .before .before .if2 .left) (c .before .before .before .before .if6 .taken) (c .before .before .repeat .ensures)
+    statement-for (c .before .before .before .before .before .before .before .before .before .before .before .before .before .before .before .before .before .args .depth) (c .before .before .before .before .before .before .before .before .before .before .before .before .before .before .before .before .before .pre .1 .1) (c .before .before .before .before .before .before .before .before .before .before .before .before .if2 .left) (c .before .before .before .before .if6 .taken) (c .before .before .repeat .ensures)
 
 statement-returns-7 : (t : ℕ) → statement-lts.Need-returns-7 (statement-env t) (statement-at t) statement′.Post
 statement-returns-7 t c =
-    statement-empty (c .before .before .before .before .before .before .before .before .before .before .before .before .before .before .args .depth) (c .before .before .before .before .before .before .before .before .before .before .before .next-word .ensures) (c .before .before .before .before .before .before .before .before .before .before .starts .result) (c .before .before .before .before .before .before .before .before .before .before .starts .ensures) (not-false (c .before .before .before .before .before .before .before .before .before .before .starts .result) (c .before .before .before .before .before .before .before .before .before .if1 .left)) (c .before .before .before .before .before .before .before .before .if2 .left) (c .before .before .before .before .before .before .if3 .left) (c .before .before .before .before .if4 .left) (c .before .before .if5 .left) (c .if6 .left) refl
+    statement-empty (c .before .before .before .before .before .before .before .before .before .before .before .before .before .args .depth) (c .before .before .before .before .before .before .before .before .before .before .before .before .before .pre .1 .1) (c .before .before .before .before .before .before .before .before .before .before .starts .result) (c .before .before .before .before .before .before .before .before .before .before .starts .ensures) (not-false (c .before .before .before .before .before .before .before .before .before .before .starts .result) (c .before .before .before .before .before .before .before .before .before .if1 .left)) (c .before .before .before .before .before .before .before .before .if2 .left) (c .before .before .before .before .before .before .if3 .left) (c .before .before .before .before .if4 .left) (c .before .before .if5 .left) (c .if6 .left) refl
 
 pub +arms+branch+branches+cases+closing+list+more-arms+otherwise+repeat+statement-spec : {M : Type 1} → statement M
-+arms+branch+branches+cases+closing+list+more-arms+otherwise+repeat+statement-spec = close μ-arms μ-branch μ-branches μ-cases μ-closing μ-list μ-more-arms μ-otherwise μ-repeat μ-statement (λ t. arms-lts.spec (arms-env t) (arms-at t) arms.Post (arms-labels-requires t) (arms-same-length t) (arms-returns t) (arms-add-list t) (arms-list-requires t) (arms-same-length-2 t) (arms-returns-2 t) (arms-more-arms-requires t) (arms-same-length-3 t) (arms-returns-3 t) (arms-add-put t) (arms-cast-put t) (arms-cast-put-2 t) (arms-cast-put-3 t) (arms-put-requires t) (arms-add-leaf t) (arms-leaf-requires t) (arms-same-length-4 t) (arms-returns-4 t)) (λ t. branch-lts.spec (branch-env t) (branch-at t) branch.Post (branch-expression-requires t) (branch-same-length t) (branch-returns t) (branch-expect-requires t) (branch-same-length-2 t) (branch-returns-2 t) (branch-branches-requires t) (branch-same-length-3 t) (branch-returns-3 t) (branch-add-put t) (branch-cast-put t) (branch-cast-put-2 t) (branch-cast-put-3 t) (branch-put-requires t) (branch-add-leaf t) (branch-leaf-requires t) (branch-same-length-4 t) (branch-returns-4 t)) (λ t. branches-lts.spec (branches-env t) (branches-at t) branches.Post (branches-add-list t) (branches-list-requires t) (branches-same-length t) (branches-returns t) (branches-otherwise-requires t) (branches-same-length-2 t) (branches-returns-2 t) (branches-add-put t) (branches-cast-put t) (branches-cast-put-2 t) (branches-cast-put-3 t) (branches-put-requires t) (branches-add-leaf t) (branches-leaf-requires t) (branches-same-length-3 t) (branches-returns-3 t)) (λ t. cases-lts.spec (cases-env t) (cases-at t) cases.Post (cases-expression-requires t) (cases-same-length t) (cases-returns t) (cases-expect-requires t) (cases-same-length-2 t) (cases-returns-2 t) (cases-arms-requires t) (cases-same-length-3 t) (cases-returns-3 t) (cases-add-put t) (cases-cast-put t) (cases-cast-put-2 t) (cases-cast-put-3 t) (cases-put-requires t) (cases-add-leaf t) (cases-leaf-requires t) (cases-same-length-4 t) (cases-returns-4 t)) (λ t. closing-lts.spec (closing-env t) (closing-at t) closing.Post (closing-next-word-requires t) (closing-expect-requires t) (closing-returns t) (closing-add-list t) (closing-list-requires t) (closing-same-length t) (closing-returns-2 t) (closing-expect-requires-2 t) (closing-same-length-2 t) (closing-returns-3 t) (closing-same-length-3 t) (closing-returns-4 t)) (λ t. list-lts.spec (list-env t) (list-at t) list.Post list-Inv-loop list-μ-loop (list-loop-holds t) (list-statement-requires t) (list-same-length t) (list-returns t) (list-expect-requires t) (list-same-length-2 t) (list-returns-2 t) (list-linked-requires t) (list-next-word-requires t) (list-starts-requires t) (list-loop-less t) (list-loop-again t) (list-same-length-3 t) (list-returns-3 t)) (λ t. more-arms-lts.spec (more-arms-env t) (more-arms-at t) more-arms.Post (more-arms-next-word-requires t) (more-arms-add-arms t) (more-arms-arms-requires t) (more-arms-same-length t) (more-arms-returns t) (more-arms-closing-requires t) (more-arms-else-list-requires t) (more-arms-same-length-2 t) (more-arms-returns-2 t)) (λ t. otherwise-lts.spec (otherwise-env t) (otherwise-at t) otherwise.Post (otherwise-next-word-requires t) (otherwise-add-branch t) (otherwise-branch-requires t) (otherwise-same-length t) (otherwise-returns t) (otherwise-closing-requires t) (otherwise-same-length-2 t) (otherwise-returns-2 t)) (λ t. repeat-lts.spec (repeat-env t) (repeat-at t) repeat.Post (repeat-head-requires t) (repeat-same-length t) (repeat-returns t) (repeat-add-list t) (repeat-list-requires t) (repeat-same-length-2 t) (repeat-returns-2 t) (repeat-expect-requires t) (repeat-same-length-3 t) (repeat-returns-3 t) (repeat-add-put t) (repeat-cast-put t) (repeat-cast-put-2 t) (repeat-cast-put-3 t) (repeat-put-requires t) (repeat-add-leaf t) (repeat-leaf-requires t) (repeat-same-length-4 t) (repeat-returns-4 t)) λ t. statement-lts.spec (statement-env t) (statement-at t) statement′.Post (statement-next-word-requires t) (statement-starts-requires t) (statement-returns t) (statement-returns-2 t) (statement-assignment-requires t) (statement-same-length t) (statement-returns-3 t) (statement-branch-requires t) (statement-same-length-2 t) (statement-returns-4 t) (statement-cases-requires t) (statement-same-length-3 t) (statement-returns-5 t) (statement-repeat-requires t) (statement-same-length-4 t) (statement-returns-6 t) (statement-returns-7 t)
++arms+branch+branches+cases+closing+list+more-arms+otherwise+repeat+statement-spec = close μ-arms μ-branch μ-branches μ-cases μ-closing μ-list μ-more-arms μ-otherwise μ-repeat μ-statement (λ t. arms-lts.spec (arms-env t) (arms-at t) arms.Post (arms-labels-requires t) (arms-same-length t) (arms-returns t) (arms-add-list t) (arms-list-requires t) (arms-same-length-2 t) (arms-returns-2 t) (arms-more-arms-requires t) (arms-same-length-3 t) (arms-returns-3 t) (arms-add-put t) (arms-cast-put t) (arms-cast-put-2 t) (arms-cast-put-3 t) (arms-put-requires t) (arms-add-leaf t) (arms-leaf-requires t) (arms-same-length-4 t) (arms-returns-4 t)) (λ t. branch-lts.spec (branch-env t) (branch-at t) branch.Post (branch-expression-requires t) (branch-same-length t) (branch-returns t) (branch-expect-requires t) (branch-same-length-2 t) (branch-returns-2 t) (branch-branches-requires t) (branch-same-length-3 t) (branch-returns-3 t) (branch-add-put t) (branch-cast-put t) (branch-cast-put-2 t) (branch-cast-put-3 t) (branch-put-requires t) (branch-add-leaf t) (branch-leaf-requires t) (branch-same-length-4 t) (branch-returns-4 t)) (λ t. branches-lts.spec (branches-env t) (branches-at t) branches.Post (branches-add-list t) (branches-list-requires t) (branches-same-length t) (branches-returns t) (branches-otherwise-requires t) (branches-same-length-2 t) (branches-returns-2 t) (branches-add-put t) (branches-cast-put t) (branches-cast-put-2 t) (branches-cast-put-3 t) (branches-put-requires t) (branches-add-leaf t) (branches-leaf-requires t) (branches-same-length-3 t) (branches-returns-3 t)) (λ t. cases-lts.spec (cases-env t) (cases-at t) cases.Post (cases-expression-requires t) (cases-same-length t) (cases-returns t) (cases-expect-requires t) (cases-same-length-2 t) (cases-returns-2 t) (cases-arms-requires t) (cases-same-length-3 t) (cases-returns-3 t) (cases-add-put t) (cases-cast-put t) (cases-cast-put-2 t) (cases-cast-put-3 t) (cases-put-requires t) (cases-add-leaf t) (cases-leaf-requires t) (cases-same-length-4 t) (cases-returns-4 t)) (λ t. closing-lts.spec (closing-env t) (closing-at t) closing.Post (closing-expected-requires t) (closing-returns t) (closing-add-list t) (closing-list-requires t) (closing-same-length t) (closing-returns-2 t) (closing-expect-requires t) (closing-same-length-2 t) (closing-returns-3 t) (closing-same-length-3 t) (closing-returns-4 t)) (λ t. list-lts.spec (list-env t) (list-at t) list.Post list-Inv-loop list-μ-loop (list-next-word-requires t) (list-loop-holds t) (list-statement-requires t) (list-same-length t) (list-returns t) (list-expect-requires t) (list-same-length-2 t) (list-returns-2 t) (list-linked-requires t) (list-next-word-requires-2 t) (list-starts-requires t) (list-loop-less t) (list-loop-again t) (list-same-length-3 t) (list-returns-3 t)) (λ t. more-arms-lts.spec (more-arms-env t) (more-arms-at t) more-arms.Post (more-arms-next-word-requires t) (more-arms-add-arms t) (more-arms-arms-requires t) (more-arms-same-length t) (more-arms-returns t) (more-arms-closing-requires t) (more-arms-else-list-requires t) (more-arms-same-length-2 t) (more-arms-returns-2 t)) (λ t. otherwise-lts.spec (otherwise-env t) (otherwise-at t) otherwise.Post (otherwise-next-word-requires t) (otherwise-add-branch t) (otherwise-branch-requires t) (otherwise-same-length t) (otherwise-returns t) (otherwise-closing-requires t) (otherwise-same-length-2 t) (otherwise-returns-2 t)) (λ t. repeat-lts.spec (repeat-env t) (repeat-at t) repeat.Post (repeat-head-requires t) (repeat-same-length t) (repeat-returns t) (repeat-add-list t) (repeat-list-requires t) (repeat-same-length-2 t) (repeat-returns-2 t) (repeat-expect-requires t) (repeat-same-length-3 t) (repeat-returns-3 t) (repeat-add-put t) (repeat-cast-put t) (repeat-cast-put-2 t) (repeat-cast-put-3 t) (repeat-put-requires t) (repeat-add-leaf t) (repeat-leaf-requires t) (repeat-same-length-4 t) (repeat-returns-4 t)) λ t. statement-lts.spec (statement-env t) (statement-at t) statement′.Post (statement-starts-requires t) (statement-returns t) (statement-returns-2 t) (statement-assignment-requires t) (statement-same-length t) (statement-returns-3 t) (statement-branch-requires t) (statement-same-length-2 t) (statement-returns-4 t) (statement-cases-requires t) (statement-same-length-3 t) (statement-returns-5 t) (statement-repeat-requires t) (statement-same-length-4 t) (statement-returns-6 t) (statement-returns-7 t)

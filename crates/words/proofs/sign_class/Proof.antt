@@ -6,6 +6,7 @@ use native.Mathlib.Omega.{arith}
 use borrow.Author.Needs.{needs}
 use borrow.Author.Tests.{ne-eqb}
 use Rattle.paper.specs.Words.{bytes, reserved, signs, begins, signPiece}
+use Rattle.words.specs.Keys.{singly}
 use Rattle.words.specs.Denoted.{entries}
 use Rattle.words.proofs.Signs.{is-sign, no-sign}
 use Rattle.words.proofs.sign_class.Statement.{statement}
@@ -158,7 +159,7 @@ returns-21 c = is-sign 38 _ (c .match .keys16) refl (omega arith) refl
 
 returns-22 : tie.Need-returns-22
 unfolding bytes reserved signs begins signPiece entries
-returns-22 c = record { high = omega arith; sign = no-sign keys signs (c .before .args .a) (c .before .args .b ∷ []) refl (c .match .rest) }
+returns-22 c = record { high = omega arith; sign = no-sign (singly keys) signs (c .before .args .a) (c .before .args .b ∷ []) refl (c .match .rest) }
 
 pub sign-class-spec : {M : Type 1} → statement M
 sign-class-spec =

@@ -1,22 +1,30 @@
--- `words::word_at` meets its contract: a run by its end, any other piece by its first two bytes.
-use mathlib.Core.Path.{_≡_, sym, _∙_}
-use mathlib.Core.Bool.{true, false}
-use native.Mathlib.Omega.{arith}
+-- `words::word_at` meets its contract: a run by its end and its underscores, any other piece as a sign.
+use mathlib.Core.Path.{refl, sym, _∙_}
+use mathlib.Core.Logic.{⊎-elim}
 use borrow.Author.Needs.{needs}
-use lib.ListN.{getD}
-use Rattle.paper.specs.Words.{inRun}
-use Rattle.words.proofs.Pieces.{number-here, name-here, sign-cut, sign-here, bad-here}
+use borrow.Author.Tests.{le-leb, lt-leb}
+use Rattle.words.specs.Denoted.{IsWordAt}
+use Rattle.words.proofs.Runs.{run-empty, run-some}
+use Rattle.words.proofs.Pieces.{badAt, sole, number-here, name-good, name-bad, name-here}
 use Rattle.words.proofs.word_at.Statement.{statement}
 use Rattle.words.proofs.word_at.Tie as tie
 
-shared-slice-read-b : tie.Need-shared-slice-read-b
-shared-slice-read-b c = search needs
+run-at-requires : tie.Need-run-at-requires
+run-at-requires c κs = search needs
 
-in-run-requires : tie.Need-in-run-requires
-in-run-requires c κs = search needs
+sign-at-requires : tie.Need-sign-at-requires
+sign-at-requires c κs = search needs
 
-run-end-requires : tie.Need-run-end-requires
-run-end-requires c κs = search needs
+returns : tie.Need-returns
+returns c =
+    let s = c .before .before .before .before in
+    let T = s .args .text .now in
+    let e = c .before .before .run-at in
+    let w = c .sign-at in
+    sole (IsWordAt T (s .args .at)) (s .args .told) T (w .result) (w .ensures .0) (w .ensures .1 (run-empty T (s .args .at) (e .result .end) (e .ensures .ends) (c .before .if1 .taken)))
+
+shared-slice-read-digit : tie.Need-shared-slice-read-digit
+shared-slice-read-digit c = search needs
 
 digit-requires : tie.Need-digit-requires
 digit-requires c κs = search needs
@@ -24,79 +32,63 @@ digit-requires c κs = search needs
 number-at-requires : tie.Need-number-at-requires
 number-at-requires c κs = search needs
 
-returns : tie.Need-returns
-returns c =
-    let s = c .before .before .before .before .before .before .before .before in
-    let run : inRun (getD (s .args .text .now) (s .args .at) 0) ≡ true = sym (c .before .before .before .before .before .in-run .ensures) ∙ c .before .before .before .before .if1 .taken in
-    let e = c .before .before .before .run-end in
-    number-here (s .args .text .now) (s .args .at) (s .pre) (e .result) (c .number-at .result) run (sym (c .before .before .digit .ensures) ∙ c .before .if2 .taken) (e .ensures) (c .number-at .ensures)
-
-name-at-requires : tie.Need-name-at-requires
-name-at-requires c κs = search needs
-
 returns-2 : tie.Need-returns-2
 returns-2 c =
-    let s = c .before .before .before .before .before .before .before .before in
-    let run : inRun (getD (s .args .text .now) (s .args .at) 0) ≡ true = sym (c .before .before .before .before .before .in-run .ensures) ∙ c .before .before .before .before .if1 .taken in
-    let e = c .before .before .before .run-end in
-    name-here (s .args .text .now) (s .args .at) (s .pre) (e .result) (c .name-at .result) run (sym (c .before .before .digit .ensures) ∙ c .before .if2 .left) (e .ensures) (c .name-at .ensures)
+    let s = c .before .before .before .before .before .before .before in
+    let T = s .args .text .now in
+    let e = c .before .before .before .before .before .run-at in
+    let w = c .number-at in
+    sole (IsWordAt T (s .args .at)) (s .args .told) T (w .result) (w .ensures .0)
+    (number-here T (s .args .at) (s .pre) (e .result .end) (w .result)
+    (run-some T (s .args .at) (e .result .end) (e .ensures .ends) (c .before .before .before .before .if1 .left))
+    (sym (c .before .before .digit .ensures) ∙ c .before .if2 .taken) (e .ensures .ends) (w .ensures))
 
-add-byte-at : tie.Need-add-byte-at
-add-byte-at c = search needs
+sub-if3 : tie.Need-sub-if3
+sub-if3 c = search needs
 
-byte-at-requires : tie.Need-byte-at-requires
-byte-at-requires c κs = search needs
+name-class-requires : tie.Need-name-class-requires
+name-class-requires c κs = search needs
 
-sign-class-requires : tie.Need-sign-class-requires
-sign-class-requires c κs = search needs
+returns-3 : tie.Need-returns-3
+returns-3 c k i =
+    let s = c .before .before .before .before .before .before .before .before .before in
+    let T = s .args .text .now in
+    let e = c .before .before .before .before .before .before .before .run-at in
+    name-here T (s .args .at) (s .pre) (e .result .end) _
+    (run-some T (s .args .at) (e .result .end) (e .ensures .ends) (c .before .before .before .before .before .before .if1 .left))
+    (sym (c .before .before .before .before .digit .ensures) ∙ c .before .before .before .if2 .left) (e .ensures .ends)
+    (name-good T (s .args .at) (e .result .end) (e .ensures .ends .from) (e .ensures .ends .to) k (c .before .before .if3 .taken)
+    (sym (e .ensures .parted) ∙ c .before .if4 .taken) (c .name-class .ensures k i))
 
 bad-requires : tie.Need-bad-requires
 bad-requires c κs = search needs
 
-returns-3 : tie.Need-returns-3
-returns-3 c =
-    let s = c .before .before .before .before .before .before .before .before in
-    let run : inRun (getD (s .args .text .now) (s .args .at) 0) ≡ false = sym (c .before .before .before .before .before .in-run .ensures) ∙ c .before .before .before .before .if1 .left in
-    let b = c .before .before .before .byte-at in
-    let k = c .before .before .sign-class in
-    rw (c .bad .ensures) (bad-here (s .args .text .now) (s .args .at) (s .pre) (b .result) (k .result) run (b .ensures) (k .ensures) (c .before .if3 .taken))
-
-sign-length-requires : tie.Need-sign-length-requires
-sign-length-requires c κs = search needs
-
-add-t12 : tie.Need-add-t12
-add-t12 c =
-    let s = c .before .before .before .before .before .before .before .before in
-    let b = c .before .before .before .byte-at in
-    let k = c .before .before .sign-class in
-    let inside = sign-cut (s .args .text .now) (s .args .at) (b .result) (k .result) (c .sign-length .result) (s .pre) (b .ensures) (k .ensures) (c .before .if3 .left) (c .sign-length .ensures) .1 in
-    omega (arith, s .good)
-
 returns-4 : tie.Need-returns-4
 returns-4 c =
     let s = c .before .before .before .before .before .before .before .before in
-    let run : inRun (getD (s .args .text .now) (s .args .at) 0) ≡ false = sym (c .before .before .before .before .before .in-run .ensures) ∙ c .before .before .before .before .if1 .left in
-    let b = c .before .before .before .byte-at in
-    let k = c .before .before .sign-class in
-    sign-here (s .args .text .now) (s .args .at) (s .pre) (b .result) (k .result) (c .sign-length .result) run (b .ensures) (k .ensures) (c .before .if3 .left) (c .sign-length .ensures)
+    let T = s .args .text .now in
+    let e = c .before .before .before .before .before .before .run-at in
+    rw (c .bad .ensures)
+    (sole (IsWordAt T (s .args .at)) (s .args .told) T (badAt (s .args .at)) refl
+    (name-here T (s .args .at) (s .pre) (e .result .end) (badAt (s .args .at))
+    (run-some T (s .args .at) (e .result .end) (e .ensures .ends) (c .before .before .before .before .before .if1 .left))
+    (sym (c .before .before .before .digit .ensures) ∙ c .before .before .if2 .left) (e .ensures .ends)
+    (name-bad T (s .args .at) (e .result .end) (e .ensures .ends .from) (e .ensures .ends .to)
+    (⊎-elim (λ w. rw (le-leb _ _ (w .0 .taken)) (sym (e .ensures .parted) ∙ w .1 .left)) (λ w. rw (lt-leb _ _ (w .left))) (c .before .if3 .came)))))
 
 pub word-at-spec : {M : Type 1} → statement M
 word-at-spec =
     tie.close
     (tie.spec
-    shared-slice-read-b
-    in-run-requires
-    run-end-requires
+    run-at-requires
+    sign-at-requires
+    returns
+    shared-slice-read-digit
     digit-requires
     number-at-requires
-    returns
-    name-at-requires
     returns-2
-    add-byte-at
-    byte-at-requires
-    sign-class-requires
-    bad-requires
+    sub-if3
+    name-class-requires
     returns-3
-    sign-length-requires
-    add-t12
+    bad-requires
     returns-4)

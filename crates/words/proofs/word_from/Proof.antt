@@ -1,35 +1,14 @@
--- `words::word_from` meets its contract: it is the word behind the blanks and comments.
+-- `words::word_from` meets its contract: a word that is told stands for its own class.
+use mathlib.Core.Path.{refl}
 use borrow.Author.Needs.{needs}
-use Rattle.words.proofs.Cuts.{open-next, word-next, ending-next}
 use Rattle.words.proofs.word_from.Statement.{statement}
 use Rattle.words.proofs.word_from.Tie as tie
 
-skip-requires : tie.Need-skip-requires
-skip-requires c κs = search needs
-
-bad-requires : tie.Need-bad-requires
-bad-requires c κs = search needs
+next-from-requires : tie.Need-next-from-requires
+next-from-requires c κs = search needs
 
 returns : tie.Need-returns
-returns c =
-    let s = c .before .before .before .before in
-    rw (c .bad .ensures) (open-next (s .args .text .now) (s .args .at) (c .before .before .skip .result) (c .before .before .skip .ensures) (c .before .if1 .taken))
-
-word-at-requires : tie.Need-word-at-requires
-word-at-requires c κs = search needs
-
-returns-2 : tie.Need-returns-2
-returns-2 c =
-    let s = c .before .before .before .before .before in
-    let g = c .before .before .before .skip in
-    word-next (s .args .text .now) (s .args .at) (g .result) (g .ensures) (c .before .before .if1 .left) (c .before .if2 .taken) (c .word-at .result) (c .word-at .ensures)
-
-returns-3 : tie.Need-returns-3
-returns-3 c =
-    let s = c .before .before .before .before in
-    let g = c .before .before .skip in
-    ending-next (s .args .text .now) (s .args .at) (g .result) (g .ensures) (c .before .if1 .left) (c .if2 .left)
+returns c = c .next-from .ensures (c .next-from .result .class) refl
 
 pub word-from-spec : {M : Type 1} → statement M
-word-from-spec =
-    tie.close (tie.spec skip-requires bad-requires returns word-at-requires returns-2 returns-3)
+word-from-spec = tie.close (tie.spec next-from-requires returns)

@@ -14,6 +14,9 @@ returns c =
       celled = λ l. absurd (omega arith);
     }
 
+key-of-requires : tie.Need-key-of-requires
+key-of-requires c κs = search needs
+
 cast-put : tie.Need-cast-put
 cast-put c = search needs
 
@@ -29,8 +32,8 @@ add-cells c = search needs
 cast-cells-2 : tie.Need-cast-cells-2
 cast-cells-2 c = search needs
 
-add-t7 : tie.Need-add-t7
-add-t7 c = search needs
+add-t9 : tie.Need-add-t9
+add-t9 c = search needs
 
 same-length : tie.Need-same-length
 same-length c = search needs
@@ -39,7 +42,8 @@ returns-2 : tie.Need-returns-2
 returns-2 c =
     record {
       full = λ l. absurd (omega arith);
-      more = λ l. c .before .before .before .before .put .ensures;
+      more = λ l.
+          rw (← c .before .before .before .before .before .before .key-of .ensures) (c .before .before .before .before .put .ensures);
       counted = λ l. refl;
       celled = λ l. omega arith;
     }
@@ -49,11 +53,12 @@ add-spec =
     tie.close
     (tie.spec
     returns
+    key-of-requires
     cast-put
     put-requires
     cast-cells
     add-cells
     cast-cells-2
-    add-t7
+    add-t9
     same-length
     returns-2)

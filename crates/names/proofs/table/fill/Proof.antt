@@ -19,13 +19,13 @@ same-length c = search needs
 
 returns : tie.Need-returns
 returns c =
-    let A = c .before .before .before .before .before .before .before .before .before .before .before .before .before .before .args in
+    let A = c .before .before .before .before .before .before .before .before .before .before .before .before .before .before .before .args in
     let a = c .before .before .before .before .before .before .before .before .before .before .add-kind in
     let b = c .before .before .before .before .before .before .add-kind2 in
     let r = c .before .before .add-kind3 in (
-      omega (arith, r .ensures .0, a .kept .1 .1 .1 .0, b .kept .1 .1 .1 .0),
-      fills-all (A .pool .now) (A .table .now) (a .last .1 .1 .1 .0) (b .last .1 .1 .1 .0) (r .last .1 .1 .1 .0) (A .d) (a .result) (b .result) (r .result)
-          (a .kept .1 .1 .1 .0) (b .kept .1 .1 .1 .0) (a .ensures .1) (b .ensures .1) (r .ensures .1),
+      omega (arith, r .ensures .0, a .kept .1 .1 .1 .1 .0, b .kept .1 .1 .1 .1 .0),
+      fills-all (A .text .now) (A .pool .now) (A .table .now) (a .last .1 .1 .1 .1 .0) (b .last .1 .1 .1 .1 .0) (r .last .1 .1 .1 .1 .0) (A .d) (a .result) (b .result) (r .result)
+          (a .kept .1 .1 .1 .1 .0) (b .kept .1 .1 .1 .1 .0) (a .ensures .1) (b .ensures .1) (r .ensures .1),
     )
 
 pub fill-spec : {M : Type 1} → statement M

@@ -25,14 +25,14 @@ use Rattle.tree.proofs.kind.Reads as kind-reads
 use Rattle.print.proofs.body.+expression.{statement}
 use Rattle.print.proofs.body.+expression.Tie.{close}
 
-abbrev μ-expression : Measures 5 expression-kinds.ps ℕ
-μ-expression κs a = a .1 .1 .1 .1 .0
+abbrev μ-expression : Measures 6 expression-kinds.ps ℕ
+μ-expression κs a = a .1 .1 .1 .1 .1 .0
 
-abbrev expression-at : ℕ → In 5 expression-kinds.ps
-expression-at t = and 5 expression-kinds.ps (is 5 expression-kinds.ps μ-expression t) expression.Pre
+abbrev expression-at : ℕ → In 6 expression-kinds.ps
+expression-at t = and 6 expression-kinds.ps (is 6 expression-kinds.ps μ-expression t) expression.Pre
 
-abbrev expression-below : ℕ → In 5 expression-kinds.ps
-expression-below t = and 5 expression-kinds.ps (falls 5 expression-kinds.ps _<_ μ-expression t) expression.Pre
+abbrev expression-below : ℕ → In 6 expression-kinds.ps
+expression-below t = and 6 expression-kinds.ps (falls 6 expression-kinds.ps _<_ μ-expression t) expression.Pre
 
 abbrev expression-env : ℕ → expression-lts.Claims
 expression-env t = (kind-reads.Asked, kind-reads.Learnt, leaf-reads.Asked, leaf-reads.Learnt, truth-reads.Asked, truth-reads.Learnt, opened-reads.Asked, opened-reads.Learnt, child-reads.Asked, child-reads.Learnt, expression-below t, expression.Post, closed-reads.Asked, closed-reads.Learnt, sign-reads.Asked, sign-reads.Learnt, put-reads.Asked, put-reads.Learnt)
@@ -41,7 +41,7 @@ expression-kind-requires : (t : ℕ) → expression-lts.Need-kind-requires (expr
 expression-kind-requires t c κs = c .before .before .before .before .before .pre .1 .1
 
 expression-leaf-requires : (t : ℕ) → expression-lts.Need-leaf-requires (expression-env t) (expression-at t) expression.Post
-expression-leaf-requires t c κs = (c .before .before .before .before .before .before .before .before .pre .1 .0, c .before .before .before .before .before .before .before .before .pre .1 .1, c .before .before .kind .ensures, c .before .if1 .taken)
+expression-leaf-requires t c κs = (c .before .before .before .before .before .before .before .before .pre .1 .0, c .before .before .before .before .before .before .before .before .pre .1 .1, c .before .before .kind .ensures, c .before .if1 .taken, c .before .before .before .before .before .before .before .before .pre .1 .2)
 
 expression-same-length : (t : ℕ) → expression-lts.Need-same-length (expression-env t) (expression-at t) expression.Post
 expression-same-length t c = search needs
@@ -83,7 +83,8 @@ expression-expression-requires : (t : ℕ) → expression-lts.Need-expression-re
 expression-expression-requires t c κs =
     let A = c .before .before .before .before .before .before .before .before .before .before .before .before .before .before .before .args in
     let s : 0 < A .i = some-node (A .plain .now) (A .i) _ (c .before .before .before .before .before .before .before .before .before .kind .ensures) (omega (arith, c .before .before .before .before .before .before .before .before .if1 .left)) in
-    rw (c .before .child .ensures) (omega (arith, c .before .before .before .before .before .before .before .before .before .before .before .before .before .before .before .pre, child-less (A .plain .now) (A .i) 1 s))
+    let l = child-less (A .plain .now) (A .i) 1 s in
+    rw (c .before .child .ensures) (omega (arith, c .before .before .before .before .before .before .before .before .before .before .before .before .before .before .before .pre), (c .before .before .before .before .before .before .before .before .before .before .before .before .before .before .before .pre .1 .0, omega (arith, c .before .before .before .before .before .before .before .before .before .before .before .before .before .before .before .pre), c .before .before .before .before .before .before .before .before .before .before .before .before .before .before .before .pre .1 .2))
 
 expression-closed-requires : (t : ℕ) → expression-lts.Need-closed-requires (expression-env t) (expression-at t) expression.Post
 expression-closed-requires t c κs = search needs
@@ -108,7 +109,8 @@ expression-expression-requires-2 : (t : ℕ) → expression-lts.Need-expression-
 expression-expression-requires-2 t c κs =
     let A = c .before .before .before .before .before .before .before .before .before .before .before .before .before .before .before .before .before .before .before .before .before .before .before .before .before .args in
     let s : 0 < A .i = some-node (A .plain .now) (A .i) _ (c .before .before .before .before .before .before .before .before .before .before .before .before .before .before .before .before .before .before .before .kind .ensures) (omega (arith, c .before .before .before .before .before .before .before .before .before .before .before .before .before .before .before .before .before .before .if1 .left)) in
-    rw (c .before .child2 .ensures) (omega (arith, c .before .before .before .before .before .before .before .before .before .before .before .before .before .before .before .before .before .before .before .before .before .before .before .before .before .pre, child-less (A .plain .now) (A .i) 2 s))
+    let l = child-less (A .plain .now) (A .i) 2 s in
+    rw (c .before .child2 .ensures) (omega (arith, c .before .before .before .before .before .before .before .before .before .before .before .before .before .before .before .before .before .before .before .before .before .before .before .before .before .pre), (c .before .before .before .before .before .before .before .before .before .before .before .before .before .before .before .before .before .before .before .before .before .before .before .before .before .pre .1 .0, omega (arith, c .before .before .before .before .before .before .before .before .before .before .before .before .before .before .before .before .before .before .before .before .before .before .before .before .before .pre), c .before .before .before .before .before .before .before .before .before .before .before .before .before .before .before .before .before .before .before .before .before .before .before .before .before .pre .1 .2))
 
 expression-slice-aggregate-put : (t : ℕ) → expression-lts.Need-slice-aggregate-put (expression-env t) (expression-at t) expression.Post
 expression-slice-aggregate-put t c = search needs

@@ -24,14 +24,14 @@ use Rattle.tree.proofs.word.Reads as word-reads
 use Rattle.print.proofs.body.+statements.{statement}
 use Rattle.print.proofs.body.+statements.Tie.{close}
 
-abbrev μ-statements : Measures 5 statements-kinds.ps ℕ
-μ-statements κs a = a .1 .1 .1 .1 .0
+abbrev μ-statements : Measures 6 statements-kinds.ps ℕ
+μ-statements κs a = a .1 .1 .1 .1 .1 .0
 
-abbrev statements-at : ℕ → In 5 statements-kinds.ps
-statements-at t = and 5 statements-kinds.ps (is 5 statements-kinds.ps μ-statements t) statements.Pre
+abbrev statements-at : ℕ → In 6 statements-kinds.ps
+statements-at t = and 6 statements-kinds.ps (is 6 statements-kinds.ps μ-statements t) statements.Pre
 
-abbrev statements-below : ℕ → In 5 statements-kinds.ps
-statements-below t = and 5 statements-kinds.ps (falls 5 statements-kinds.ps _<_ μ-statements t) statements.Pre
+abbrev statements-below : ℕ → In 6 statements-kinds.ps
+statements-below t = and 6 statements-kinds.ps (falls 6 statements-kinds.ps _<_ μ-statements t) statements.Pre
 
 abbrev statements-env : ℕ → statements-lts.Claims
 statements-env t = (word-reads.Asked, word-reads.Learnt, assignment-reads.Asked, assignment-reads.Learnt, child-reads.Asked, child-reads.Learnt, statements-below t, statements.Post, condition-reads.Asked, condition-reads.Learnt, between-reads.Asked, between-reads.Learnt, put-reads.Asked, put-reads.Learnt)
@@ -64,7 +64,8 @@ statements-statements-requires : (t : ℕ) → statements-lts.Need-statements-re
 statements-statements-requires t c κs =
     let A = c .before .before .before .before .before .before .before .before .before .before .before .args in
     let s : 0 < A .i = omega (arith, c .before .before .before .before .before .if1 .left) in
-    rw (c .before .child .ensures) (omega (arith, c .before .before .before .before .before .before .before .before .before .before .before .pre, child-less (A .plain .now) (A .i) 1 s))
+    let l = child-less (A .plain .now) (A .i) 1 s in
+    rw (c .before .child .ensures) (omega (arith, c .before .before .before .before .before .before .before .before .before .before .before .pre), (c .before .before .before .before .before .before .before .before .before .before .before .pre .1 .0, omega (arith, c .before .before .before .before .before .before .before .before .before .before .before .pre), c .before .before .before .before .before .before .before .before .before .before .before .pre .1 .2))
 
 statements-child-requires-2 : (t : ℕ) → statements-lts.Need-child-requires-2 (statements-env t) (statements-at t) statements.Post
 statements-child-requires-2 t c κs = (c .before .before .before .before .before .before .before .before .before .before .before .before .before .before .pre .1 .1, omega arith)
@@ -73,7 +74,8 @@ statements-statements-requires-2 : (t : ℕ) → statements-lts.Need-statements-
 statements-statements-requires-2 t c κs =
     let A = c .before .before .before .before .before .before .before .before .before .before .before .before .before .before .before .before .args in
     let s : 0 < A .i = omega (arith, c .before .before .before .before .before .before .before .before .before .before .if1 .left) in
-    rw (c .before .child2 .ensures) (omega (arith, c .before .before .before .before .before .before .before .before .before .before .before .before .before .before .before .before .pre, child-less (A .plain .now) (A .i) 2 s))
+    let l = child-less (A .plain .now) (A .i) 2 s in
+    rw (c .before .child2 .ensures) (omega (arith, c .before .before .before .before .before .before .before .before .before .before .before .before .before .before .before .before .pre), (c .before .before .before .before .before .before .before .before .before .before .before .before .before .before .before .before .pre .1 .0, omega (arith, c .before .before .before .before .before .before .before .before .before .before .before .before .before .before .before .before .pre), c .before .before .before .before .before .before .before .before .before .before .before .before .before .before .before .before .pre .1 .2))
 
 statements-same-length-2 : (t : ℕ) → statements-lts.Need-same-length-2 (statements-env t) (statements-at t) statements.Post
 statements-same-length-2 t c = (c .before .before .before .before .before .before .before .statements .ensures then c .before .before .statements2 .ensures) .size
@@ -101,7 +103,8 @@ statements-statements-requires-3 : (t : ℕ) → statements-lts.Need-statements-
 statements-statements-requires-3 t c κs =
     let A = c .before .before .before .before .before .before .before .before .before .before .before .before .before .before .before .before .args in
     let s : 0 < A .i = omega (arith, c .before .before .before .before .before .before .before .before .before .before .if1 .left) in
-    rw (c .before .child3 .ensures) (omega (arith, c .before .before .before .before .before .before .before .before .before .before .before .before .before .before .before .before .pre, child-less (A .plain .now) (A .i) 2 s))
+    let l = child-less (A .plain .now) (A .i) 2 s in
+    rw (c .before .child3 .ensures) (omega (arith, c .before .before .before .before .before .before .before .before .before .before .before .before .before .before .before .before .pre), (c .before .before .before .before .before .before .before .before .before .before .before .before .before .before .before .before .pre .1 .0, omega (arith, c .before .before .before .before .before .before .before .before .before .before .before .before .before .before .before .before .pre), c .before .before .before .before .before .before .before .before .before .before .before .before .before .before .before .before .pre .1 .2))
 
 statements-between-requires : (t : ℕ) → statements-lts.Need-between-requires (statements-env t) (statements-at t) statements.Post
 statements-between-requires t c κs = c .before .before .before .before .before .before .before .before .before .before .before .before .before .before .before .before .before .before .before .before .pre .1 .1
@@ -113,7 +116,8 @@ statements-statements-requires-4 : (t : ℕ) → statements-lts.Need-statements-
 statements-statements-requires-4 t c κs =
     let A = c .before .before .before .before .before .before .before .before .before .before .before .before .before .before .before .before .before .before .before .before .before .before .before .before .before .args in
     let s : 0 < A .i = omega (arith, c .before .before .before .before .before .before .before .before .before .before .before .before .before .before .before .before .before .before .before .if1 .left) in
-    rw (c .before .child4 .ensures) (omega (arith, c .before .before .before .before .before .before .before .before .before .before .before .before .before .before .before .before .before .before .before .before .before .before .before .before .before .pre, child-less (A .plain .now) (A .i) 3 s))
+    let l = child-less (A .plain .now) (A .i) 3 s in
+    rw (c .before .child4 .ensures) (omega (arith, c .before .before .before .before .before .before .before .before .before .before .before .before .before .before .before .before .before .before .before .before .before .before .before .before .before .pre), (c .before .before .before .before .before .before .before .before .before .before .before .before .before .before .before .before .before .before .before .before .before .before .before .before .before .pre .1 .0, omega (arith, c .before .before .before .before .before .before .before .before .before .before .before .before .before .before .before .before .before .before .before .before .before .before .before .before .before .pre), c .before .before .before .before .before .before .before .before .before .before .before .before .before .before .before .before .before .before .before .before .before .before .before .before .before .pre .1 .2))
 
 statements-slice-aggregate-put : (t : ℕ) → statements-lts.Need-slice-aggregate-put (statements-env t) (statements-at t) statements.Post
 statements-slice-aggregate-put t c = search needs

@@ -21,25 +21,16 @@ word-requires c κs = search needs
 cast-first : tie.Need-cast-first
 cast-first c = search needs
 
-word-requires-2 : tie.Need-word-requires-2
-word-requires-2 c κs = search needs
-
-cast-name-of : tie.Need-cast-name-of
-cast-name-of c = search needs
-
-name-of-requires : tie.Need-name-of-requires
-name-of-requires c κs = search needs
-
-capitals-requires : tie.Need-capitals-requires
-capitals-requires c κs = search needs
+named-requires : tie.Need-named-requires
+named-requires c κs = search needs
 
 declaration-of-requires : tie.Need-declaration-of-requires
 declaration-of-requires c κs = search needs
 
 sub-subscripted : tie.Need-sub-subscripted
 sub-subscripted c =
-    let l : c .before .before .before .before .before .before .before .before .before .variable-of .result < length (c .before .before .before .before .before .before .before .before .before .before .before .before .before .before .args .table .now) / 4 = omega arith in
-    rw (c .before .before .before .before .before .before .before .word .ensures) (c .before .before .before .before .before .before .before .before .before .variable-of .ensures .from l)
+    let l : c .before .before .before .before .before .before .before .variable-of .result < length (c .before .before .before .before .before .before .before .before .before .before .before .before .args .table .now) / 4 = omega arith in
+    rw (c .before .before .before .before .before .word .ensures) (c .before .before .before .before .before .before .before .variable-of .ensures .from l)
 
 subscripted-requires : tie.Need-subscripted-requires
 subscripted-requires c κs = search needs
@@ -49,11 +40,12 @@ same-length c = search needs
 
 returns-2 : tie.Need-returns-2
 returns-2 c =
-    let A = c .before .before .before .before .before .before .before .before .before .before .before .before .before .before .before .before .before .before .args in
-    let l : c .before .before .before .before .before .before .before .before .before .before .before .before .before .variable-of .result < length (A .table .now) / 4 = omega arith in
-    named (λ k. c .before .before .before .before .before .before .before .before .before .before .before .before .before .variable-of .ensures .found l (A .text .now) k
-    ∙ variable-cell (A .text .now) (A .pool .now) (A .table .now) (c .before .before .before .before .before .before .before .before .before .before .before .before .before .variable-of .result) (A .c) _ _ _ _ k (c .before .before .before .before .before .before .before .before .name-of .ensures) (c .before .before .before .before .before .before .before .before .before .word2 .ensures) (c .before .before .before .before .declaration-of .ensures .0) (c .before .before .before .before .before .before .before .before .before .before .before .word .ensures))
-    (c .before .before .before .before .before .before .before .capitals .ensures then c .before .before .subscripted .ensures)
+    let A = c .before .before .before .before .before .before .before .before .before .before .before .before .before .before .before .before .args in
+    let v = c .before .before .before .before .before .before .before .before .before .before .before .variable-of in
+    let l : v .result < length (A .table .now) / 4 = omega arith in
+    named (λ k. v .ensures .found l (A .text .now) k
+    ∙ variable-cell (A .text .now) (A .pool .now) (A .table .now) (v .result) (A .c) _ _ k (c .before .before .before .before .declaration-of .ensures .0) (c .before .before .before .before .before .before .before .before .before .word .ensures))
+    (c .before .before .before .before .before .before .before .named .ensures then c .before .before .subscripted .ensures)
 
 pub cell-spec : {M : Type 1} → statement M
 cell-spec =
@@ -63,10 +55,7 @@ cell-spec =
     returns
     word-requires
     cast-first
-    word-requires-2
-    cast-name-of
-    name-of-requires
-    capitals-requires
+    named-requires
     declaration-of-requires
     sub-subscripted
     subscripted-requires

@@ -1,11 +1,9 @@
 -- The proof of the cycle of calls {plain_of, unary_of, binary_of}. The measure is the node: a child is an earlier one.
 use borrow.Author.Needs.{needs}
-use mathlib.Core.Path.{_≡_, sym, ap, _∙_}
+use mathlib.Core.Path.{_≡_, refl, sym, _∙_}
 use Prim.Native.Nat.{ℕ, _+_, _*_, _≤_, _<_}
 use native.Mathlib.Omega.{arith}
 use lib.ListN.{length}
-use Rattle.paper.specs.Types.{tag}
-use Rattle.tree.proofs.Decodes.{child-most}
 use Rattle.variables.specs.Table.{listedIn}
 use Rattle.constants.proofs.Nodes.{child-below}
 use Rattle.unwind.proofs.Exprs.{read-plain}
@@ -25,11 +23,11 @@ use Rattle.unwind.proofs.parts.+binary_of+plain_of+unary_of.Lts-unary_o
 use Rattle.tree.proofs.child.Reads as child-reads
 use Rattle.tree.proofs.kind.Reads as kind-reads
 use Rattle.tree.proofs.word.Reads as word-reads
-use Rattle.constants.proofs.operand_type.Reads as operand-type-reads
-use Rattle.constants.proofs.type_in.Reads as type-in-reads
 use Rattle.unwind.proofs.parts.constant.Reads as constant-reads
 use Rattle.unwind.proofs.parts.offered.Reads as offered-reads
+use Rattle.constants.proofs.offered_first.Reads as offered-first-reads
 use Rattle.unwind.proofs.parts.read.Reads as read-reads
+use Rattle.constants.proofs.result_type.Reads as result-type-reads
 use Rattle.unwind.proofs.parts.wrapped.Reads as wrapped-reads
 use Rattle.value.proofs.tag_of.Reads as tag-of-reads
 use Rattle.unwind.proofs.parts.+binary_of+plain_of+unary_of.{statement}
@@ -63,13 +61,13 @@ abbrev unary-of-below : ℕ → In 5 unary-of-kinds.ps
 unary-of-below t = and 5 unary-of-kinds.ps (falls 5 unary-of-kinds.ps _<_ μ-unary-of t) unary-of.Pre
 
 abbrev binary-of-env : ℕ → binary-of-lts.Claims
-binary-of-env t = (kind-reads.Asked, kind-reads.Learnt, operand-type-reads.Asked, operand-type-reads.Learnt, child-reads.Asked, child-reads.Learnt, plain-of-below t, plain-of.Post, tag-of-reads.Asked, tag-of-reads.Learnt, wrapped-reads.Asked, wrapped-reads.Learnt)
+binary-of-env t = (kind-reads.Asked, kind-reads.Learnt, offered-first-reads.Asked, offered-first-reads.Learnt, child-reads.Asked, child-reads.Learnt, plain-of-below t, plain-of.Post, result-type-reads.Asked, result-type-reads.Learnt, tag-of-reads.Asked, tag-of-reads.Learnt, wrapped-reads.Asked, wrapped-reads.Learnt)
 
 binary-of-kind-requires : (t : ℕ) → binary-of-lts.Need-kind-requires (binary-of-env t) (binary-of-at t) binary-of.Post
 binary-of-kind-requires t c κs = search needs
 
-binary-of-operand-type-requires : (t : ℕ) → binary-of-lts.Need-operand-type-requires (binary-of-env t) (binary-of-at t) binary-of.Post
-binary-of-operand-type-requires t c κs = search needs
+binary-of-offered-first-requires : (t : ℕ) → binary-of-lts.Need-offered-first-requires (binary-of-env t) (binary-of-at t) binary-of.Post
+binary-of-offered-first-requires t c κs = search needs
 
 binary-of-child-requires : (t : ℕ) → binary-of-lts.Need-child-requires (binary-of-env t) (binary-of-at t) binary-of.Post
 binary-of-child-requires t c κs = search needs
@@ -83,7 +81,8 @@ binary-of-same-length t c = search needs
 binary-of-returns : (t : ℕ) → binary-of-lts.Need-returns (binary-of-env t) (binary-of-at t) binary-of.Post
 binary-of-returns t c =
     let A = c .before .before .before .before .before .before .before .before .before .before .before .before .before .before .args in
-    binary-stop (A .text .now) (A .pool .now) (A .table .now) (A .env .now) (A .t) (A .i) (A .out .now) _ (A .count) _ _ (c .before .before .before .before .before .before .before .operand-type .result) (c .before .before .before .before .plain-of .result) (sym (c .before .before .before .before .before .before .before .before .kind .ensures)) (omega (arith, c .before .before .before .before .before .before .before .before .kind .ensures)) (omega (arith, c .before .before .before .before .before .before .before .before .kind .ensures)) (c .before .before .before .before .before .before .child .ensures) (c .before .before .before .before .before .before .before .operand-type .ensures) (c .before .before .before .before .plain-of .ensures) (c .if1 .taken)
+    binary-stop (A .text .now) (A .pool .now) (A .table .now) (A .env .now) (A .t) (A .i) (A .out .now) _ (A .count) _ _ (c .before .before .before .before .before .before .before .offered-first .result) (c .before .before .before .before .plain-of .result)
+    (sym (c .before .before .before .before .before .before .before .before .kind .ensures)) (omega (arith, c .before .before .before .before .before .before .before .before .kind .ensures, c .before .before .before .before .before .before .before .before .before .before .before .before .before .before .pre)) (omega (arith, c .before .before .before .before .before .before .before .before .kind .ensures, c .before .before .before .before .before .before .before .before .before .before .before .before .before .before .pre)) (c .before .before .before .before .before .before .child .ensures) (c .before .before .before .before .before .before .before .offered-first .ensures) (c .before .before .before .before .plain-of .ensures) (c .if1 .taken)
 
 binary-of-child-requires-2 : (t : ℕ) → binary-of-lts.Need-child-requires-2 (binary-of-env t) (binary-of-at t) binary-of.Post
 binary-of-child-requires-2 t c κs = search needs
@@ -91,11 +90,8 @@ binary-of-child-requires-2 t c κs = search needs
 binary-of-plain-of-requires-2 : (t : ℕ) → binary-of-lts.Need-plain-of-requires-2 (binary-of-env t) (binary-of-at t) binary-of.Post
 binary-of-plain-of-requires-2 t c κs = let A = c .before .before .before .before .before .before .before .before .before .before .before .before .before .before .before .before .args in omega (arith, child-below (A .pool .now) (A .i) 2 (omega (arith, c .before .before .before .before .before .before .before .before .before .before .before .before .before .before .before .before .pre)), c .before .child2 .ensures, c .before .before .before .before .before .before .plain-of .ensures .holds, c .before .before .before .before .before .before .plain-of .ensures .long, c .before .before .before .before .before .before .before .before .before .before .before .before .before .before .before .before .pre)
 
-binary-of-tag-of-requires : (t : ℕ) → binary-of-lts.Need-tag-of-requires (binary-of-env t) (binary-of-at t) binary-of.Post
-binary-of-tag-of-requires t c κs = search needs
-
-binary-of-cast-v : (t : ℕ) → binary-of-lts.Need-cast-v (binary-of-env t) (binary-of-at t) binary-of.Post
-binary-of-cast-v t c = search needs
+binary-of-result-type-requires : (t : ℕ) → binary-of-lts.Need-result-type-requires (binary-of-env t) (binary-of-at t) binary-of.Post
+binary-of-result-type-requires t c κs = search needs
 
 binary-of-cast-wrapped : (t : ℕ) → binary-of-lts.Need-cast-wrapped (binary-of-env t) (binary-of-at t) binary-of.Post
 binary-of-cast-wrapped t c = omega (arith, c .before .before .before .before .before .before .before .before .before .before .before .before .plain-of .ensures .holds, c .before .before .before .before .before .before .before .before .before .before .before .before .plain-of .ensures .long, c .before .before .before .before .before .before .before .before .before .before .before .before .before .before .before .before .before .before .before .before .before .before .pre)
@@ -103,22 +99,31 @@ binary-of-cast-wrapped t c = omega (arith, c .before .before .before .before .be
 binary-of-cast-wrapped-2 : (t : ℕ) → binary-of-lts.Need-cast-wrapped-2 (binary-of-env t) (binary-of-at t) binary-of.Post
 binary-of-cast-wrapped-2 t c = omega (arith, c .before .before .before .before .before .before .plain-of2 .ensures .holds, c .before .before .before .before .before .before .plain-of2 .ensures .long, c .before .before .before .before .before .before .before .before .before .before .before .before .before .plain-of .ensures .long, c .before .before .before .before .before .before .before .before .before .before .before .before .before .before .before .before .before .before .before .before .before .before .before .pre)
 
+binary-of-tag-of-requires : (t : ℕ) → binary-of-lts.Need-tag-of-requires (binary-of-env t) (binary-of-at t) binary-of.Post
+binary-of-tag-of-requires t c κs = search needs
+
+binary-of-cast-wrapped-3 : (t : ℕ) → binary-of-lts.Need-cast-wrapped-3 (binary-of-env t) (binary-of-at t) binary-of.Post
+binary-of-cast-wrapped-3 t c = search needs
+
 binary-of-add-wrapped : (t : ℕ) → binary-of-lts.Need-add-wrapped (binary-of-env t) (binary-of-at t) binary-of.Post
-binary-of-add-wrapped t c = omega (arith, c .before .before .before .before .before .before .before .before .before .before .before .before .before .before .before .plain-of .ensures .small, c .before .before .before .before .before .before .before .before .plain-of2 .ensures .small)
+binary-of-add-wrapped t c = omega (arith, c .before .before .before .before .before .before .before .before .before .before .before .before .before .before .before .before .plain-of .ensures .small, c .before .before .before .before .before .before .before .before .before .plain-of2 .ensures .small)
 
 binary-of-add-wrapped-2 : (t : ℕ) → binary-of-lts.Need-add-wrapped-2 (binary-of-env t) (binary-of-at t) binary-of.Post
-binary-of-add-wrapped-2 t c = omega (arith, c .before .before .before .before .before .before .before .before .before .before .before .before .before .before .before .plain-of .ensures .small, c .before .before .before .before .before .before .before .before .plain-of2 .ensures .small)
+binary-of-add-wrapped-2 t c = omega (arith, c .before .before .before .before .before .before .before .before .before .before .before .before .before .before .before .before .plain-of .ensures .small, c .before .before .before .before .before .before .before .before .before .plain-of2 .ensures .small)
 
 binary-of-wrapped-requires : (t : ℕ) → binary-of-lts.Need-wrapped-requires (binary-of-env t) (binary-of-at t) binary-of.Post
-binary-of-wrapped-requires t c κs = omega (arith, c .before .before .before .before .before .before .before .before .plain-of2 .ensures .holds, c .before .before .before .before .before .before .before .before .plain-of2 .ensures .long, c .before .before .before .before .before .before .before .before .plain-of2 .ensures .small, c .before .before .before .before .before .before .before .before .before .before .before .before .before .before .before .plain-of .ensures .long, c .before .before .before .before .before .before .before .before .before .before .before .before .before .before .before .before .before .before .before .before .before .before .before .before .before .pre)
+binary-of-wrapped-requires t c κs = omega (arith, c .before .before .before .before .before .before .before .before .before .plain-of2 .ensures .holds, c .before .before .before .before .before .before .before .before .before .plain-of2 .ensures .long, c .before .before .before .before .before .before .before .before .before .plain-of2 .ensures .small, c .before .before .before .before .before .before .before .before .before .before .before .before .before .before .before .before .plain-of .ensures .long, c .before .before .before .before .before .before .before .before .before .before .before .before .before .before .before .before .before .before .before .before .before .before .before .before .before .before .pre)
 
 binary-of-same-length-2 : (t : ℕ) → binary-of-lts.Need-same-length-2 (binary-of-env t) (binary-of-at t) binary-of.Post
-binary-of-same-length-2 t c = c .before .before .wrapped .ensures .long ∙ c .before .before .before .before .before .before .before .before .before .before .before .plain-of2 .ensures .long ∙ c .before .before .before .before .before .before .before .before .before .before .before .before .before .before .before .before .before .before .plain-of .ensures .long
+binary-of-same-length-2 t c = c .before .before .wrapped .ensures .long ∙ c .before .before .before .before .before .before .before .before .before .before .before .before .plain-of2 .ensures .long ∙ c .before .before .before .before .before .before .before .before .before .before .before .before .before .before .before .before .before .before .before .plain-of .ensures .long
 
 binary-of-returns-2 : (t : ℕ) → binary-of-lts.Need-returns-2 (binary-of-env t) (binary-of-at t) binary-of.Post
 binary-of-returns-2 t c =
-    let A = c .before .before .before .before .before .before .before .before .before .before .before .before .before .before .before .before .before .before .before .before .before .before .before .before .before .before .before .before .args in
-    binary-did (A .text .now) (A .pool .now) (A .table .now) (A .env .now) (A .t) (A .i) (A .out .now) _ (A .count) _ _ (c .before .before .before .before .before .before .before .before .before .before .before .before .before .before .before .before .before .before .before .before .before .operand-type .result) (c .before .before .before .before .before .before .before .before .before .before .before .before .before .before .before .before .before .before .plain-of .result) (sym (c .before .before .before .before .before .before .before .before .before .before .before .before .before .before .before .before .before .before .before .before .before .before .kind .ensures)) (omega (arith, c .before .before .before .before .before .before .before .before .before .before .before .before .before .before .before .before .before .before .before .before .before .before .kind .ensures, c .before .before .before .before .before .before .before .before .before .before .before .before .before .before .before .before .before .before .before .before .before .before .before .before .before .before .before .before .pre)) (omega (arith, c .before .before .before .before .before .before .before .before .before .before .before .before .before .before .before .before .before .before .before .before .before .before .kind .ensures, c .before .before .before .before .before .before .before .before .before .before .before .before .before .before .before .before .before .before .before .before .before .before .before .before .before .before .before .before .pre)) (c .before .before .before .before .before .before .before .before .before .before .before .before .before .before .before .before .before .before .before .before .child .ensures) (c .before .before .before .before .before .before .before .before .before .before .before .before .before .before .before .before .before .before .before .before .before .operand-type .ensures) (c .before .before .before .before .before .before .before .before .before .before .before .before .before .before .before .before .before .before .plain-of .ensures) _ _ _ _ (c .before .before .before .before .before .before .before .before .before .before .before .plain-of2 .result) (c .before .before .wrapped .result) (c .before .before .before .before .before .before .before .before .before .before .before .before .before .child2 .ensures) (c .before .before .before .before .before .before .before .before .tag-of .ensures) (c .before .before .before .before .before .before .before .before .before .before .before .before .before .before .if1 .left) (c .before .before .before .before .before .before .before .before .before .before .before .plain-of2 .ensures) (c .before .before .wrapped .ensures)
+    let A = c .before .before .before .before .before .before .before .before .before .before .before .before .before .before .before .before .before .before .before .before .before .before .before .before .before .before .before .before .before .args in
+    binary-did (A .text .now) (A .pool .now) (A .table .now) (A .env .now) (A .t) (A .i) (A .out .now) _ (A .count) _ _ (c .before .before .before .before .before .before .before .before .before .before .before .before .before .before .before .before .before .before .before .before .before .before .offered-first .result) (c .before .before .before .before .before .before .before .before .before .before .before .before .before .before .before .before .before .before .before .plain-of .result)
+    (sym (c .before .before .before .before .before .before .before .before .before .before .before .before .before .before .before .before .before .before .before .before .before .before .before .kind .ensures)) (omega (arith, c .before .before .before .before .before .before .before .before .before .before .before .before .before .before .before .before .before .before .before .before .before .before .before .kind .ensures, c .before .before .before .before .before .before .before .before .before .before .before .before .before .before .before .before .before .before .before .before .before .before .before .before .before .before .before .before .before .pre)) (omega (arith, c .before .before .before .before .before .before .before .before .before .before .before .before .before .before .before .before .before .before .before .before .before .before .before .kind .ensures, c .before .before .before .before .before .before .before .before .before .before .before .before .before .before .before .before .before .before .before .before .before .before .before .before .before .before .before .before .before .pre)) (c .before .before .before .before .before .before .before .before .before .before .before .before .before .before .before .before .before .before .before .before .before .child .ensures) (c .before .before .before .before .before .before .before .before .before .before .before .before .before .before .before .before .before .before .before .before .before .before .offered-first .ensures) (c .before .before .before .before .before .before .before .before .before .before .before .before .before .before .before .before .before .before .before .plain-of .ensures)
+    _ _ _ _ 0 (c .before .before .before .before .before .before .before .before .before .result-type .result) (c .before .before .before .before .before .before .before .before .before .before .before .before .plain-of2 .result) (c .before .before .wrapped .result) (c .before .before .before .before .before .before .before .before .before .before .before .before .before .before .child2 .ensures) (c .before .before .before .before .before .tag-of .ensures) (c .before .before .before .before .before .before .before .before .before .result-type .ensures) (c .before .before .before .before .before .before .before .before .before .before .before .before .before .before .before .if1 .left)
+    (c .before .before .before .before .before .before .before .before .before .before .before .before .plain-of2 .ensures) (c .before .before .wrapped .ensures)
 
 abbrev plain-of-env : ℕ → plain-of-lts.Claims
 plain-of-env t = (kind-reads.Asked, kind-reads.Learnt, constant-reads.Asked, constant-reads.Learnt, read-reads.Asked, read-reads.Learnt, unary-of-below t, unary-of.Post, binary-of-below t, binary-of.Post)
@@ -158,7 +163,7 @@ plain-of-returns-3 : (t : ℕ) → plain-of-lts.Need-returns-3 (plain-of-env t) 
 plain-of-returns-3 t c =
     let A = c .before .before .before .before .before .before .before .before .before .before .before .before .before .args in
     let vs = listedIn (A .text .now) (A .pool .now) (A .table .now) in
-    did-as vs (length (A .env .now)) (A .out .now) _ (A .count) _ _ (c .before .before .read .result) (read-plain (A .text .now) (A .pool .now) (A .i) _ (sym (c .before .before .before .before .before .before .before .kind .ensures)) vs (A .env .now) (A .t) (omega arith) (c .before .before .before .before .if3 .taken)) (c .before .before .read .ensures)
+    did-as vs (length (A .env .now)) (A .out .now) _ (A .count) _ _ _ _ (c .before .before .read .result) (read-plain (A .text .now) (A .pool .now) (A .i) _ (sym (c .before .before .before .before .before .before .before .kind .ensures)) vs (A .env .now) (A .t) (omega arith) (c .before .before .before .before .if3 .taken)) refl (c .before .before .read .ensures (A .t))
 
 plain-of-unary-of-requires : (t : ℕ) → plain-of-lts.Need-unary-of-requires (plain-of-env t) (plain-of-at t) plain-of.Post
 plain-of-unary-of-requires t c κs = omega (arith, c .before .before .before .before .before .kind .ensures)
@@ -179,7 +184,7 @@ plain-of-returns-5 : (t : ℕ) → plain-of-lts.Need-returns-5 (plain-of-env t) 
 plain-of-returns-5 t c = c .before .before .binary-of .ensures
 
 abbrev unary-of-env : ℕ → unary-of-lts.Claims
-unary-of-env t = (kind-reads.Asked, kind-reads.Learnt, child-reads.Asked, child-reads.Learnt, word-reads.Asked, word-reads.Learnt, offered-reads.Asked, offered-reads.Learnt, plain-of-below t, plain-of.Post, type-in-reads.Asked, type-in-reads.Learnt, tag-of-reads.Asked, tag-of-reads.Learnt, wrapped-reads.Asked, wrapped-reads.Learnt)
+unary-of-env t = (kind-reads.Asked, kind-reads.Learnt, child-reads.Asked, child-reads.Learnt, word-reads.Asked, word-reads.Learnt, offered-reads.Asked, offered-reads.Learnt, plain-of-below t, plain-of.Post, result-type-reads.Asked, result-type-reads.Learnt, tag-of-reads.Asked, tag-of-reads.Learnt, wrapped-reads.Asked, wrapped-reads.Learnt)
 
 unary-of-kind-requires : (t : ℕ) → unary-of-lts.Need-kind-requires (unary-of-env t) (unary-of-at t) unary-of.Post
 unary-of-kind-requires t c κs = search needs
@@ -204,17 +209,17 @@ unary-of-returns t c =
     let A = c .before .before .before .before .before .before .before .before .before .before .before .before .before .before .args in
     brackets-did (A .text .now) (A .pool .now) (A .table .now) (A .env .now) (A .t) (A .i) (A .out .now) _ (A .count) _ _ _ (c .before .before .before .before .before .offered .result) (c .before .before .before .plain-of .result) (sym (c .before .before .before .before .before .before .before .before .kind .ensures)) (c .before .before .before .before .before .before .before .child .ensures) (c .before .before .before .before .before .before .word .ensures) (c .before .before .before .before .before .offered .ensures) (c .before .before .before .plain-of .ensures) (c .if1 .taken)
 
-unary-of-type-in-requires : (t : ℕ) → unary-of-lts.Need-type-in-requires (unary-of-env t) (unary-of-at t) unary-of.Post
-unary-of-type-in-requires t c κs = let A = c .before .before .before .before .before .before .before .before .before .before .before .before .before .before .args in omega (arith, child-most (A .pool .now) (A .i) 1, c .before .before .before .before .before .before .before .child .ensures, c .before .before .before .before .before .before .before .before .before .before .before .before .before .before .pre)
+unary-of-result-type-requires : (t : ℕ) → unary-of-lts.Need-result-type-requires (unary-of-env t) (unary-of-at t) unary-of.Post
+unary-of-result-type-requires t c κs = search needs
+
+unary-of-cast-wrapped : (t : ℕ) → unary-of-lts.Need-cast-wrapped (unary-of-env t) (unary-of-at t) unary-of.Post
+unary-of-cast-wrapped t c = omega (arith, c .before .before .before .before .before .before .plain-of .ensures .holds, c .before .before .before .before .before .before .plain-of .ensures .long, c .before .before .before .before .before .before .before .before .before .before .before .before .before .before .before .before .before .pre)
 
 unary-of-tag-of-requires : (t : ℕ) → unary-of-lts.Need-tag-of-requires (unary-of-env t) (unary-of-at t) unary-of.Post
 unary-of-tag-of-requires t c κs = search needs
 
-unary-of-cast-v : (t : ℕ) → unary-of-lts.Need-cast-v (unary-of-env t) (unary-of-at t) unary-of.Post
-unary-of-cast-v t c = search needs
-
-unary-of-cast-wrapped : (t : ℕ) → unary-of-lts.Need-cast-wrapped (unary-of-env t) (unary-of-at t) unary-of.Post
-unary-of-cast-wrapped t c = omega (arith, c .before .before .before .before .before .before .before .plain-of .ensures .holds, c .before .before .before .before .before .before .before .plain-of .ensures .long, c .before .before .before .before .before .before .before .before .before .before .before .before .before .before .before .before .before .before .pre)
+unary-of-cast-wrapped-2 : (t : ℕ) → unary-of-lts.Need-cast-wrapped-2 (unary-of-env t) (unary-of-at t) unary-of.Post
+unary-of-cast-wrapped-2 t c = search needs
 
 unary-of-add-wrapped : (t : ℕ) → unary-of-lts.Need-add-wrapped (unary-of-env t) (unary-of-at t) unary-of.Post
 unary-of-add-wrapped t c = omega (arith, c .before .before .before .before .before .before .before .before .plain-of .ensures .small)
@@ -228,7 +233,9 @@ unary-of-same-length-2 t c = search needs
 unary-of-returns-2 : (t : ℕ) → unary-of-lts.Need-returns-2 (unary-of-env t) (unary-of-at t) unary-of.Post
 unary-of-returns-2 t c =
     let A = c .before .before .before .before .before .before .before .before .before .before .before .before .before .before .before .before .before .before .before .before .before .before .args in
-    unary-did (A .text .now) (A .pool .now) (A .table .now) (A .env .now) (A .t) (A .i) (A .out .now) _ (A .count) _ _ _ (c .before .before .before .before .before .before .before .before .before .before .before .before .before .offered .result) (c .before .before .before .before .before .before .before .before .before .before .before .plain-of .result) (sym (c .before .before .before .before .before .before .before .before .before .before .before .before .before .before .before .before .kind .ensures)) (c .before .before .before .before .before .before .before .before .before .before .before .before .before .before .before .child .ensures) (c .before .before .before .before .before .before .before .before .before .before .before .before .before .before .word .ensures) (c .before .before .before .before .before .before .before .before .before .before .before .before .before .offered .ensures) (c .before .before .before .before .before .before .before .before .before .before .before .plain-of .ensures) _ _ (c .before .before .wrapped .result) (c .before .before .before .before .before .before .tag-of .ensures ∙ ap tag (c .before .before .before .before .before .before .before .type-in .ensures)) (c .before .before .wrapped .ensures) (omega (arith, c .before .before .before .before .before .before .before .before .before .before .before .before .before .before .before .before .kind .ensures, c .before .before .before .before .before .before .before .before .before .before .before .before .before .before .before .before .before .before .before .before .before .before .pre)) (omega (arith, c .before .before .before .before .before .before .before .before .before .before .before .before .before .before .before .before .kind .ensures, c .before .before .before .before .before .before .before .before .before .before .before .before .before .before .before .before .before .before .before .before .before .before .pre)) (c .before .before .before .before .before .before .before .before .if1 .left)
+    unary-did (A .text .now) (A .pool .now) (A .table .now) (A .env .now) (A .t) (A .i) (A .out .now) _ (A .count) _ _ _ (c .before .before .before .before .before .before .before .before .before .before .before .before .before .offered .result) (c .before .before .before .before .before .before .before .before .before .before .before .plain-of .result)
+    (sym (c .before .before .before .before .before .before .before .before .before .before .before .before .before .before .before .before .kind .ensures)) (c .before .before .before .before .before .before .before .before .before .before .before .before .before .before .before .child .ensures) (c .before .before .before .before .before .before .before .before .before .before .before .before .before .before .word .ensures) (c .before .before .before .before .before .before .before .before .before .before .before .before .before .offered .ensures) (c .before .before .before .before .before .before .before .before .before .before .before .plain-of .ensures) _ _ (c .before .before .before .before .before .before .before .result-type .result) (c .before .before .wrapped .result)
+    (c .before .before .before .before .tag-of .ensures) (c .before .before .before .before .before .before .before .result-type .ensures) (omega (arith, c .before .before .before .before .before .before .before .before .before .before .before .before .before .before .before .before .kind .ensures, c .before .before .before .before .before .before .before .before .before .before .before .before .before .before .before .before .before .before .before .before .before .before .pre)) (omega (arith, c .before .before .before .before .before .before .before .before .before .before .before .before .before .before .before .before .kind .ensures, c .before .before .before .before .before .before .before .before .before .before .before .before .before .before .before .before .before .before .before .before .before .before .pre)) (c .before .before .wrapped .ensures) (c .before .before .before .before .before .before .before .before .if1 .left)
 
 pub +binary-of+plain-of+unary-of-spec : {M : Type 1} → statement M
-+binary-of+plain-of+unary-of-spec = close μ-binary-of μ-plain-of μ-unary-of (λ t. binary-of-lts.spec (binary-of-env t) (binary-of-at t) binary-of.Post (binary-of-kind-requires t) (binary-of-operand-type-requires t) (binary-of-child-requires t) (binary-of-plain-of-requires t) (binary-of-same-length t) (binary-of-returns t) (binary-of-child-requires-2 t) (binary-of-plain-of-requires-2 t) (binary-of-tag-of-requires t) (binary-of-cast-v t) (binary-of-cast-wrapped t) (binary-of-cast-wrapped-2 t) (binary-of-add-wrapped t) (binary-of-add-wrapped-2 t) (binary-of-wrapped-requires t) (binary-of-same-length-2 t) (binary-of-returns-2 t)) (λ t. plain-of-lts.spec (plain-of-env t) (plain-of-at t) plain-of.Post (plain-of-kind-requires t) (plain-of-constant-requires t) (plain-of-same-length t) (plain-of-returns t) (plain-of-constant-requires-2 t) (plain-of-same-length-2 t) (plain-of-returns-2 t) (plain-of-read-requires t) (plain-of-same-length-3 t) (plain-of-returns-3 t) (plain-of-unary-of-requires t) (plain-of-same-length-4 t) (plain-of-returns-4 t) (plain-of-binary-of-requires t) (plain-of-same-length-5 t) (plain-of-returns-5 t)) λ t. unary-of-lts.spec (unary-of-env t) (unary-of-at t) unary-of.Post (unary-of-kind-requires t) (unary-of-child-requires t) (unary-of-word-requires t) (unary-of-offered-requires t) (unary-of-plain-of-requires t) (unary-of-same-length t) (unary-of-returns t) (unary-of-type-in-requires t) (unary-of-tag-of-requires t) (unary-of-cast-v t) (unary-of-cast-wrapped t) (unary-of-add-wrapped t) (unary-of-wrapped-requires t) (unary-of-same-length-2 t) (unary-of-returns-2 t)
++binary-of+plain-of+unary-of-spec = close μ-binary-of μ-plain-of μ-unary-of (λ t. binary-of-lts.spec (binary-of-env t) (binary-of-at t) binary-of.Post (binary-of-kind-requires t) (binary-of-offered-first-requires t) (binary-of-child-requires t) (binary-of-plain-of-requires t) (binary-of-same-length t) (binary-of-returns t) (binary-of-child-requires-2 t) (binary-of-plain-of-requires-2 t) (binary-of-result-type-requires t) (binary-of-cast-wrapped t) (binary-of-cast-wrapped-2 t) (binary-of-tag-of-requires t) (binary-of-cast-wrapped-3 t) (binary-of-add-wrapped t) (binary-of-add-wrapped-2 t) (binary-of-wrapped-requires t) (binary-of-same-length-2 t) (binary-of-returns-2 t)) (λ t. plain-of-lts.spec (plain-of-env t) (plain-of-at t) plain-of.Post (plain-of-kind-requires t) (plain-of-constant-requires t) (plain-of-same-length t) (plain-of-returns t) (plain-of-constant-requires-2 t) (plain-of-same-length-2 t) (plain-of-returns-2 t) (plain-of-read-requires t) (plain-of-same-length-3 t) (plain-of-returns-3 t) (plain-of-unary-of-requires t) (plain-of-same-length-4 t) (plain-of-returns-4 t) (plain-of-binary-of-requires t) (plain-of-same-length-5 t) (plain-of-returns-5 t)) λ t. unary-of-lts.spec (unary-of-env t) (unary-of-at t) unary-of.Post (unary-of-kind-requires t) (unary-of-child-requires t) (unary-of-word-requires t) (unary-of-offered-requires t) (unary-of-plain-of-requires t) (unary-of-same-length t) (unary-of-returns t) (unary-of-result-type-requires t) (unary-of-cast-wrapped t) (unary-of-tag-of-requires t) (unary-of-cast-wrapped-2 t) (unary-of-add-wrapped t) (unary-of-wrapped-requires t) (unary-of-same-length-2 t) (unary-of-returns-2 t)

@@ -35,8 +35,10 @@ same-length c = search needs
 returns : tie.Need-returns
 unfolding parts
 returns c =
-    leaf-did (c .before .before .before .before .before .before .before .before .before .before .before .before .before .args .out .now) _ (c .before .before .before .before .before .before .before .before .before .before .before .before .before .args .count) _ _ _ _ _ (c .before .before .before .emit .ensures) (c .ended .result) (c .ended .ensures .0) (c .ended .ensures .1) (c .ended .ensures .2) (listedIn (c .before .before .before .before .before .before .before .before .before .before .before .before .before .args .text .now) (c .before .before .before .before .before .before .before .before .before .before .before .before .before .args .pool .now) (c .before .before .before .before .before .before .before .before .before .before .before .before .before .args .table .now)) (length (c .before .before .before .before .before .before .before .before .before .before .before .before .before .args .env .now)) _ (read (record { 0 = c .before .before .before .before .before .before .before .cell-of .result .cell }))
-    (ap (λ o. o >>= λ c. given (read c)) (cell-given (listedIn (c .before .before .before .before .before .before .before .before .before .before .before .before .before .args .text .now) (c .before .before .before .before .before .before .before .before .before .before .before .before .before .args .pool .now) (c .before .before .before .before .before .before .before .before .before .before .before .before .before .args .table .now)) (c .before .before .before .before .before .before .before .before .before .before .before .before .before .args .env .now) (exprAt (c .before .before .before .before .before .before .before .before .before .before .before .before .before .args .text .now) (c .before .before .before .before .before .before .before .before .before .before .before .before .before .args .pool .now) (c .before .before .before .before .before .before .before .before .before .before .before .before .before .args .i)) _ (sym (given-as (c .before .before .before .before .before .before .before .cell-of .result .some) true _ (c .before .before .before .before .before .before .if1 .taken)) ∙ c .before .before .before .before .before .before .before .cell-of .ensures)))
+    λ u.
+    leaf-did (c .before .before .before .before .before .before .before .before .before .before .before .before .before .args .out .now) _ (c .before .before .before .before .before .before .before .before .before .before .before .before .before .args .count) _ _ _ _ _ (c .before .before .before .emit .ensures) (c .ended .result) (c .ended .ensures .0) (c .ended .ensures .1) (c .ended .ensures .2) (listedIn (c .before .before .before .before .before .before .before .before .before .before .before .before .before .args .text .now) (c .before .before .before .before .before .before .before .before .before .before .before .before .before .args .pool .now) (c .before .before .before .before .before .before .before .before .before .before .before .before .before .args .table .now)) (length (c .before .before .before .before .before .before .before .before .before .before .before .before .before .args .env .now)) _ (read (record { 0 = c .before .before .before .before .before .before .before .cell-of .result .cell })) _
+    (ap (λ o. o >>= λ c. given (read c)) (cell-given (listedIn (c .before .before .before .before .before .before .before .before .before .before .before .before .before .args .text .now) (c .before .before .before .before .before .before .before .before .before .before .before .before .before .args .pool .now) (c .before .before .before .before .before .before .before .before .before .before .before .before .before .args .table .now)) (c .before .before .before .before .before .before .before .before .before .before .before .before .before .args .env .now) (exprAt (c .before .before .before .before .before .before .before .before .before .before .before .before .before .args .text .now) (c .before .before .before .before .before .before .before .before .before .before .before .before .before .args .pool .now) (c .before .before .before .before .before .before .before .before .before .before .before .before .before .args .i)) _ (sym (given-as (c .before .before .before .before .before .before .before .cell-of .result .some) true _ (c .before .before .before .before .before .before .if1 .taken)) ∙ c .before .before .before .before .before .before .before .cell-of .ensures .0)))
+    (c .ended .ensures .3 ∙ c .before .before .before .before .before .before .before .cell-of .ensures .1 (c .before .before .before .before .before .before .if1 .taken) u)
     refl
     (λ h. put-read (c .before .before .before .before .before .before .before .before .before .before .before .before .before .args .out .now) (c .before .before .before .before .before .before .before .before .before .before .before .before .before .args .count + 1) _ 0 0 (omega arith) h)
 
@@ -46,7 +48,7 @@ no-cell-requires c κs = search needs
 returns-2 : tie.Need-returns-2
 returns-2 c =
     beyond-did (c .before .before .before .before .before .before .before .before .before .args .text .now) (c .before .before .before .before .before .before .before .before .before .args .pool .now) (c .before .before .before .before .before .before .before .before .before .args .table .now) (c .before .before .before .before .before .before .before .before .before .args .env .now) (c .before .before .before .before .before .before .before .before .before .args .i) (c .before .before .before .before .before .before .before .before .before .args .out .now) (c .before .before .before .before .before .before .before .before .before .args .count) (c .no-cell .result) (c .no-cell .ensures) (omega arith) (c .before .before .before .cell-of .result .cell)
-    (sym (given-as (c .before .before .before .cell-of .result .some) true _ (c .before .before .if1 .taken)) ∙ c .before .before .before .cell-of .ensures) (c .before .if2 .left)
+    (sym (given-as (c .before .before .before .cell-of .result .some) true _ (c .before .before .if1 .taken)) ∙ c .before .before .before .cell-of .ensures .0) (c .before .if2 .left)
 
 no-cell-requires-2 : tie.Need-no-cell-requires-2
 no-cell-requires-2 c κs = search needs
@@ -54,7 +56,7 @@ no-cell-requires-2 c κs = search needs
 returns-3 : tie.Need-returns-3
 returns-3 c =
     none-did (c .before .before .before .before .before .before .before .before .args .text .now) (c .before .before .before .before .before .before .before .before .args .pool .now) (c .before .before .before .before .before .before .before .before .args .table .now) (c .before .before .before .before .before .before .before .before .args .env .now) (c .before .before .before .before .before .before .before .before .args .i) (c .before .before .before .before .before .before .before .before .args .out .now) (c .before .before .before .before .before .before .before .before .args .count) (c .no-cell2 .result) (c .no-cell2 .ensures) (omega arith)
-    (sym (given-as (c .before .before .cell-of .result .some) false _ (c .before .if1 .left)) ∙ c .before .before .cell-of .ensures)
+    (sym (given-as (c .before .before .cell-of .result .some) false _ (c .before .if1 .left)) ∙ c .before .before .cell-of .ensures .0)
 
 pub read-spec : {M : Type 1} → statement M
 read-spec =

@@ -40,7 +40,6 @@ use Rattle.unwind.proofs.walk.+arm+arms+both+choice+repeat+select+turns
 use Rattle.unwind.proofs.walk.unwind.Reads as unwind
 use Rattle.unwind.proofs.walk.unwind.Kinds as unwind-kinds
 use Rattle.unwind.proofs.walk.+arm+arms+both+choice+repeat+select+turns+unwind.Lts-unwind as unwind-lts
-use Rattle.constants.proofs.type_in.Reads as type-in-reads
 use Rattle.tree.proofs.child.Reads as child-reads
 use Rattle.tree.proofs.kind.Reads as kind-reads
 use Rattle.tree.proofs.word.Reads as word-reads
@@ -598,7 +597,7 @@ repeat-returns-3 t c =
     all-passes (h .head-of .ensures) (a .out .now) (a .count) (a .weight) (z .pre .1 .1) (z .pre .1 .2) (not-false _ (f .if1 .left)) _ (w .child .ensures) (sym (p .passed .ensures) ∙ e .if2 .left) (c .before .before .before .before .turns .ensures)
 
 abbrev select-env : ℕ → select-lts.Claims
-select-env t = (child-reads.Asked, child-reads.Learnt, plain-of-reads.Asked, plain-of-reads.Learnt, refused-reads.Asked, refused-reads.Learnt, word-reads.Asked, word-reads.Learnt, type-in-reads.Asked, type-in-reads.Learnt, arms-below t, arms.Post)
+select-env t = (child-reads.Asked, child-reads.Learnt, plain-of-reads.Asked, plain-of-reads.Learnt, refused-reads.Asked, refused-reads.Learnt, word-reads.Asked, word-reads.Learnt, arms-below t, arms.Post)
 
 select-child-requires : (t : ℕ) → select-lts.Need-child-requires (select-env t) (select-at t) select.Post
 select-child-requires t c κs = search needs
@@ -631,20 +630,14 @@ select-word-requires t c κs = search needs
 select-cast-arms : (t : ℕ) → select-lts.Need-cast-arms (select-env t) (select-at t) select.Post
 select-cast-arms t c = search needs
 
-select-type-in-requires : (t : ℕ) → select-lts.Need-type-in-requires (select-env t) (select-at t) select.Post
-select-type-in-requires t c κs =
-    let S = c .before .before .before .before .before .before .before .before .before .before .before .before .before .before in
-    let A = S .args in
-    omega (arith, child-most (A .pool .now) (A .i) 1, c .before .before .before .before .before .before .before .before .child .ensures, S .pre)
-
 select-child-requires-2 : (t : ℕ) → select-lts.Need-child-requires-2 (select-env t) (select-at t) select.Post
-select-child-requires-2 t c κs = omega (arith, c .before .before .before .before .before .before .before .before .before .before .before .before .before .before .before .before .pre)
+select-child-requires-2 t c κs = omega (arith, c .before .before .before .before .before .before .before .before .before .before .before .before .before .before .before .pre)
 
 select-arms-requires : (t : ℕ) → select-lts.Need-arms-requires (select-env t) (select-at t) select.Post
 select-arms-requires t c κs =
-    let S = c .before .before .before .before .before .before .before .before .before .before .before .before .before .before .before .before .before .before in
+    let S = c .before .before .before .before .before .before .before .before .before .before .before .before .before .before .before .before .before in
     let A = S .args in
-    omega (arith, child-most (A .pool .now) (A .i) 1, child-less (A .pool .now) (A .i) 2 (S .pre .1 .1), c .before .before .before .before .before .before .before .before .before .before .before .before .child .ensures, c .before .child2 .ensures, S .pre, c .before .before .before .before .before .before .before .before .before .plain-of .ensures .long)
+    omega (arith, child-most (A .pool .now) (A .i) 1, child-less (A .pool .now) (A .i) 2 (S .pre .1 .1), c .before .before .before .before .before .before .before .before .before .before .before .child .ensures, c .before .child2 .ensures, S .pre, c .before .before .before .before .before .before .before .before .plain-of .ensures .long)
 
 select-same-length-3 : (t : ℕ) → select-lts.Need-same-length-3 (select-env t) (select-at t) select.Post
 select-same-length-3 t c = search needs
@@ -654,10 +647,10 @@ select-same-length-4 t c = search needs
 
 select-returns-2 : (t : ℕ) → select-lts.Need-returns-2 (select-env t) (select-at t) select.Post
 select-returns-2 t c =
-    let S = c .before .before .before .before .before .before .before .before .before .before .before .before .before .before .before .before .before .before .before .before .before .before .before in
+    let S = c .before .before .before .before .before .before .before .before .before .before .before .before .before .before .before .before .before .before .before .before .before .before in
     let A = S .args in
     select-did (A .text .now) (A .pool .now) (A .table .now) (A .env .now) (A .i) (A .count) (A .weight) (A .out .now) (c .before .before .before .before .arms .result)
-    (S .pre .1 .1) (S .pre .1 .2) _ (c .before .before .before .before .before .before .before .before .before .before .before .before .before .before .before .before .before .child .result) (c .before .before .before .before .before .before .before .before .before .before .before .before .before .before .before .before .before .child .ensures) (c .before .before .before .before .before .before .before .before .before .before .before .before .before .before .plain-of .result) (c .before .before .before .before .before .before .before .before .before .before .before .before .before .before .plain-of .ensures) (c .before .before .before .before .before .before .before .before .before .before .if1 .left) _ (c .before .before .before .before .before .before .before .before .before .word .ensures) refl (c .before .before .before .before .before .before .before .before .type-in .ensures) _ _ (c .before .before .before .before .before .before .child2 .result) (c .before .before .before .before .before .before .child2 .ensures) (c .before .before .before .before .arms .ensures)
+    (S .pre .1 .1) (S .pre .1 .2) _ (c .before .before .before .before .before .before .before .before .before .before .before .before .before .before .before .before .child .result) (c .before .before .before .before .before .before .before .before .before .before .before .before .before .before .before .before .child .ensures) (c .before .before .before .before .before .before .before .before .before .before .before .before .before .plain-of .result) (c .before .before .before .before .before .before .before .before .before .before .before .before .before .plain-of .ensures) (c .before .before .before .before .before .before .before .before .before .if1 .left) _ (c .before .before .before .before .before .before .before .before .word .ensures) refl (c .before .before .before .before .before .before .before .before .before .before .before .before .before .plain-of .ensures .typed (c .before .before .before .before .before .before .before .before .before .if1 .left)) _ _ (c .before .before .before .before .before .before .child2 .result) (c .before .before .before .before .before .before .child2 .ensures) (c .before .before .before .before .arms .ensures)
 
 abbrev turns-env : ℕ → turns-lts.Claims
 turns-env t = (set-variable-reads.Asked, set-variable-reads.Learnt, residue-of-reads.Asked, residue-of-reads.Learnt, unwind-below t, unwind.Post, linked-reads.Asked, linked-reads.Learnt, passed-reads.Asked, passed-reads.Learnt, turns-below t, turns.Post)
@@ -885,4 +878,4 @@ unwind-returns-7 t c =
     (other-case (A .text .now) (A .pool .now) (A .i) (omega (arith, c .before .before .before .before .before .before .if1 .left)) (omega (arith, c .before .before .before .before .before .before .before .kind .ensures, c .before .before .before .before .before .if2 .left, c .before .before .before .before .if3 .left, c .before .before .before .if4 .left, c .before .before .if5 .left, c .before .if6 .left))) (c .walked2 .ensures .0) (c .walked2 .ensures .1) (c .walked2 .ensures .2) (c .walked2 .ensures .3) (S .pre .1 .2 .1)
 
 pub +arm+arms+both+choice+repeat+select+turns+unwind-spec : {M : Type 1} → statement M
-+arm+arms+both+choice+repeat+select+turns+unwind-spec = close μ-arm μ-arms μ-both μ-choice μ-repeat μ-select μ-turns μ-unwind (λ t. arm-lts.spec (arm-env t) (arm-at t) arm.Post (arm-child-requires t) (arm-arm-test-requires t) (arm-same-length t) (arm-same-length-2 t) (arm-returns t) (arm-child-requires-2 t) (arm-unwind-requires t) (arm-same-length-3 t) (arm-same-length-4 t) (arm-returns-2 t) (arm-child-requires-3 t) (arm-arms-requires t) (arm-same-length-5 t) (arm-same-length-6 t) (arm-returns-3 t) (arm-joined-requires t) (arm-same-length-7 t) (arm-same-length-8 t) (arm-returns-4 t)) (λ t. arms-lts.spec (arms-env t) (arms-at t) arms.Post (arms-kind-requires t) (arms-walked-requires t) (arms-returns t) (arms-walked-requires-2 t) (arms-returns-2 t) (arms-child-requires t) (arms-unwind-requires t) (arms-same-length t) (arms-same-length-2 t) (arms-returns-3 t) (arms-arm-requires t) (arms-same-length-3 t) (arms-same-length-4 t) (arms-returns-4 t)) (λ t. both-lts.spec (both-env t) (both-at t) both.Post (both-child-requires t) (both-unwind-requires t) (both-same-length t) (both-same-length-2 t) (both-returns t) (both-child-requires-2 t) (both-unwind-requires-2 t) (both-same-length-3 t) (both-same-length-4 t) (both-returns-2 t) (both-linked-requires t) (both-same-length-5 t) (both-same-length-6 t) (both-returns-3 t)) (λ t. choice-lts.spec (choice-env t) (choice-at t) choice.Post (choice-child-requires t) (choice-word-requires t) (choice-cast-q t) (choice-child-requires-2 t) (choice-plain-of-requires t) (choice-refused-requires t) (choice-same-length t) (choice-same-length-2 t) (choice-returns t) (choice-add-w t) (choice-refused-requires-2 t) (choice-same-length-3 t) (choice-same-length-4 t) (choice-returns-2 t) (choice-child-requires-3 t) (choice-unwind-requires t) (choice-same-length-5 t) (choice-same-length-6 t) (choice-returns-3 t) (choice-child-requires-4 t) (choice-unwind-requires-2 t) (choice-same-length-7 t) (choice-same-length-8 t) (choice-returns-4 t) (choice-joined-requires t) (choice-same-length-9 t) (choice-same-length-10 t) (choice-returns-5 t)) (λ t. repeat-lts.spec (repeat-env t) (repeat-at t) repeat.Post (repeat-head-of-requires t) (repeat-refused-requires t) (repeat-same-length t) (repeat-returns t) (repeat-passed-requires t) (repeat-set-variable-requires t) (repeat-same-length-2 t) (repeat-same-length-3 t) (repeat-returns-2 t) (repeat-mul-old t) (repeat-slice-read-old t) (repeat-child-requires t) (repeat-turns-requires t) (repeat-mul-env t) (repeat-slice-write-env t) (repeat-same-length-4 t) (repeat-same-length-5 t) (repeat-returns-3 t)) (λ t. select-lts.spec (select-env t) (select-at t) select.Post (select-child-requires t) (select-plain-of-requires t) (select-refused-requires t) (select-same-length t) (select-same-length-2 t) (select-returns t) (select-word-requires t) (select-cast-arms t) (select-type-in-requires t) (select-child-requires-2 t) (select-arms-requires t) (select-same-length-3 t) (select-same-length-4 t) (select-returns-2 t)) (λ t. turns-lts.spec (turns-env t) (turns-at t) turns.Post (turns-set-variable-requires t) (turns-same-length t) (turns-returns t) (turns-residue-of-requires t) (turns-mul-env t) (turns-slice-write-env t) (turns-unwind-requires t) (turns-same-length-2 t) (turns-same-length-3 t) (turns-returns-2 t) (turns-linked-requires t) (turns-linked-requires-2 t) (turns-add-passed t) (turns-passed-requires t) (turns-same-length-4 t) (turns-same-length-5 t) (turns-returns-3 t) (turns-add-turns t) (turns-turns-requires t) (turns-same-length-6 t) (turns-same-length-7 t) (turns-returns-4 t)) λ t. unwind-lts.spec (unwind-env t) (unwind-at t) unwind.Post (unwind-kind-requires t) (unwind-walked-requires t) (unwind-returns t) (unwind-assignment-requires t) (unwind-same-length t) (unwind-same-length-2 t) (unwind-returns-2 t) (unwind-choice-requires t) (unwind-same-length-3 t) (unwind-same-length-4 t) (unwind-returns-3 t) (unwind-select-requires t) (unwind-same-length-5 t) (unwind-same-length-6 t) (unwind-returns-4 t) (unwind-repeat-requires t) (unwind-same-length-7 t) (unwind-same-length-8 t) (unwind-returns-5 t) (unwind-both-requires t) (unwind-same-length-9 t) (unwind-same-length-10 t) (unwind-returns-6 t) (unwind-walked-requires-2 t) (unwind-returns-7 t)
++arm+arms+both+choice+repeat+select+turns+unwind-spec = close μ-arm μ-arms μ-both μ-choice μ-repeat μ-select μ-turns μ-unwind (λ t. arm-lts.spec (arm-env t) (arm-at t) arm.Post (arm-child-requires t) (arm-arm-test-requires t) (arm-same-length t) (arm-same-length-2 t) (arm-returns t) (arm-child-requires-2 t) (arm-unwind-requires t) (arm-same-length-3 t) (arm-same-length-4 t) (arm-returns-2 t) (arm-child-requires-3 t) (arm-arms-requires t) (arm-same-length-5 t) (arm-same-length-6 t) (arm-returns-3 t) (arm-joined-requires t) (arm-same-length-7 t) (arm-same-length-8 t) (arm-returns-4 t)) (λ t. arms-lts.spec (arms-env t) (arms-at t) arms.Post (arms-kind-requires t) (arms-walked-requires t) (arms-returns t) (arms-walked-requires-2 t) (arms-returns-2 t) (arms-child-requires t) (arms-unwind-requires t) (arms-same-length t) (arms-same-length-2 t) (arms-returns-3 t) (arms-arm-requires t) (arms-same-length-3 t) (arms-same-length-4 t) (arms-returns-4 t)) (λ t. both-lts.spec (both-env t) (both-at t) both.Post (both-child-requires t) (both-unwind-requires t) (both-same-length t) (both-same-length-2 t) (both-returns t) (both-child-requires-2 t) (both-unwind-requires-2 t) (both-same-length-3 t) (both-same-length-4 t) (both-returns-2 t) (both-linked-requires t) (both-same-length-5 t) (both-same-length-6 t) (both-returns-3 t)) (λ t. choice-lts.spec (choice-env t) (choice-at t) choice.Post (choice-child-requires t) (choice-word-requires t) (choice-cast-q t) (choice-child-requires-2 t) (choice-plain-of-requires t) (choice-refused-requires t) (choice-same-length t) (choice-same-length-2 t) (choice-returns t) (choice-add-w t) (choice-refused-requires-2 t) (choice-same-length-3 t) (choice-same-length-4 t) (choice-returns-2 t) (choice-child-requires-3 t) (choice-unwind-requires t) (choice-same-length-5 t) (choice-same-length-6 t) (choice-returns-3 t) (choice-child-requires-4 t) (choice-unwind-requires-2 t) (choice-same-length-7 t) (choice-same-length-8 t) (choice-returns-4 t) (choice-joined-requires t) (choice-same-length-9 t) (choice-same-length-10 t) (choice-returns-5 t)) (λ t. repeat-lts.spec (repeat-env t) (repeat-at t) repeat.Post (repeat-head-of-requires t) (repeat-refused-requires t) (repeat-same-length t) (repeat-returns t) (repeat-passed-requires t) (repeat-set-variable-requires t) (repeat-same-length-2 t) (repeat-same-length-3 t) (repeat-returns-2 t) (repeat-mul-old t) (repeat-slice-read-old t) (repeat-child-requires t) (repeat-turns-requires t) (repeat-mul-env t) (repeat-slice-write-env t) (repeat-same-length-4 t) (repeat-same-length-5 t) (repeat-returns-3 t)) (λ t. select-lts.spec (select-env t) (select-at t) select.Post (select-child-requires t) (select-plain-of-requires t) (select-refused-requires t) (select-same-length t) (select-same-length-2 t) (select-returns t) (select-word-requires t) (select-cast-arms t) (select-child-requires-2 t) (select-arms-requires t) (select-same-length-3 t) (select-same-length-4 t) (select-returns-2 t)) (λ t. turns-lts.spec (turns-env t) (turns-at t) turns.Post (turns-set-variable-requires t) (turns-same-length t) (turns-returns t) (turns-residue-of-requires t) (turns-mul-env t) (turns-slice-write-env t) (turns-unwind-requires t) (turns-same-length-2 t) (turns-same-length-3 t) (turns-returns-2 t) (turns-linked-requires t) (turns-linked-requires-2 t) (turns-add-passed t) (turns-passed-requires t) (turns-same-length-4 t) (turns-same-length-5 t) (turns-returns-3 t) (turns-add-turns t) (turns-turns-requires t) (turns-same-length-6 t) (turns-same-length-7 t) (turns-returns-4 t)) λ t. unwind-lts.spec (unwind-env t) (unwind-at t) unwind.Post (unwind-kind-requires t) (unwind-walked-requires t) (unwind-returns t) (unwind-assignment-requires t) (unwind-same-length t) (unwind-same-length-2 t) (unwind-returns-2 t) (unwind-choice-requires t) (unwind-same-length-3 t) (unwind-same-length-4 t) (unwind-returns-3 t) (unwind-select-requires t) (unwind-same-length-5 t) (unwind-same-length-6 t) (unwind-returns-4 t) (unwind-repeat-requires t) (unwind-same-length-7 t) (unwind-same-length-8 t) (unwind-returns-5 t) (unwind-both-requires t) (unwind-same-length-9 t) (unwind-same-length-10 t) (unwind-returns-6 t) (unwind-walked-requires-2 t) (unwind-returns-7 t)

@@ -1,0 +1,3 @@
+pub mod Outcomes
+pub mod Tables
+pub mod Totals
