@@ -97,7 +97,7 @@ module _ (t p table : List ℕ) (r : Ruled) (i : RuledAs t p table (sound t) r) 
       abbrev pub whole : Judged
       whole = record { number = 0; place = 0; root = r .root; variables = r .variables; cells = r .cells; list = u .root; weight = u .weight }
 
-      pub stands : u .code ≡ 0 → 60800 ≤ length old → JudgedAs t p table new (judge t) whole
+      pub stands : u .code ≡ 0 → 48016 ≤ length old → JudgedAs t p table new (judge t) whole
       stands e l =
           let says : said new u ≡ Unwinding.unwound (listAt new (u .root)) (u .weight) = rw (said, eq-eqb (u .code) 0 e) refl in
           let goes = d .goes e in

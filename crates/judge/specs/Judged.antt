@@ -16,7 +16,7 @@ pub record Roomy (t p table q : List ℕ) : Type 0 where
   pub tree : TreeFits t p
   pub nodes : length p ≤ 262144
   pub variables : length t ≤ 8192 → 4 * length t ≤ length table
-  pub plain : 60800 ≤ length q
+  pub plain : 48016 ≤ length q
   pub numbered : length q ≤ 262144
 
 -- the accepted program a: its tree in the pool p, its variables in the front of the table, its ST0 in the pool q

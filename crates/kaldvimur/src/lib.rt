@@ -20,7 +20,7 @@ const SHORT: usize = 1024;
 const LONGEST: usize = 8192;
 
 // The words that every ST0 has room in.
-const PLAIN: usize = 60800;
+const PLAIN: usize = 48016;
 
 // The refusal of a number.
 fn why_of(number: u8) -> Why

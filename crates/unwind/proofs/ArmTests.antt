@@ -123,7 +123,7 @@ module _ (vs : List Variable) (env : State) (old mid : List ℕ) (sel : Stand.Se
               let high : m + 2 ≤ n + 4 * k = s .1 in
               (omega arith, omega arith, omega arith, omega arith, omega arith)
 
-      module _ (few : n ≤ 4 * w) (room : 60800 ≤ length old) where
+      module _ (few : n ≤ 4 * w) (room : 48016 ≤ length old) where
         pub arm-none : i ≡ 0 → Emitted mid new n 3 0 0 0 m → Did new
         arm-none nil emitted =
             light-did (emitted .long) (emitted .same)

@@ -55,7 +55,7 @@ part-given mid n (given x) v h z = record { plain = x; is = refl; counted = h .1
 
 -- of one that is light the nodes stand, and a walk may follow
 pub part-light : {vs : List Variable} {size : ℕ} {old mid : List ℕ} {n : ℕ} {o : Answer Expr} {u : Ty} {v : Part} (d : PartDid vs size old mid n o u v) (w : ℕ)
-    → v .code ≡ 0 → w + v .parts ≤ 3000 → n ≤ 4 * w → 60800 ≤ length old → (v .count ≡ n + v .parts) × (0 < v .parts)
+    → v .code ≡ 0 → w + v .parts ≤ 3000 → n ≤ 4 * w → 48016 ≤ length old → (v .count ≡ n + v .parts) × (0 < v .parts)
 part-light {vs} {size} {old} {mid} {n} {o} {u} {v} d w z l k f =
     let g = part-given mid n (d .own) v (d .parted) z in
     let some = parts-some (g .plain) in
@@ -119,7 +119,7 @@ module _ (t p tab : List ℕ) (env : State) (i n w : ℕ) (old : List ℕ) (r : 
       choice-node env mid r (no-test (λ z. omega arith))
       (λ ins size. part-heavy mid n (test .own) v r place w (test .parted) z l code (at ∙ place-is) _)
 
-  module _ (z : v .code ≡ 0) (light : w + v .parts ≤ 3000) (low : n ≤ 4 * w) (fits : 60800 ≤ length old)
+  module _ (z : v .code ≡ 0) (light : w + v .parts ≤ 3000) (low : n ≤ 4 * w) (fits : 48016 ≤ length old)
       (m : ℕ) (em : m ≡ w + v .parts) (env₁ : State) (mid₁ : List ℕ) (ja : ℕ) (eja : ja ≡ childOf p j 1) (a : Walk)
       (left : UnwindDid t p tab env env₁ mid mid₁ ja (v .count) m a) where
     good : GivenPart mid n (test .own) v

@@ -112,7 +112,7 @@ module _ (old : List ℕ) (h : Head) (v : ℤ) (n w : ℕ) (r : Walk) where
       }
 
   pub set-good : (mid new : List ℕ) (s m : ℕ) (y : ℤ) → y ≡ v → Spelt old mid n 1 (number (h .ty) y) s → Emitted mid new s 40 (h .cell) s 0 m
-      → r .code ≡ 0 → r .count ≡ m → r .root ≡ m → r .weight ≡ w + 1 → w ≤ 2999 → n ≤ 4 * w → 60800 ≤ length old → SetDid old new h v n w r
+      → r .code ≡ 0 → r .count ≡ m → r .root ≡ m → r .weight ≡ w + 1 → w ≤ 2999 → n ≤ 4 * w → 48016 ≤ length old → SetDid old new h v n w r
   set-good mid new s m y is d e code ec er ew l k f =
       let before = d .ends (omega arith) in
       let at : s ≡ n + 1 = before .0 in

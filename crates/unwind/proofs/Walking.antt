@@ -136,7 +136,7 @@ module _ (old : List ℕ) (at : ℕ) (cell : Cell) (w : ℕ) (v : Part) (r : Wal
   assigned-heavy z l ec ea = record { long = refl; same = λ j s. refl; does = λ n o h k m. heavy-does n o h z l ec ea }
 
   module _ (new : List ℕ) (m : ℕ) (e : Emitted old new (v .count) 40 (cell .0) (v .count) 0 m) (code : r .code ≡ 0) (ec : r .count ≡ m) (er : r .root ≡ m) (ew : r .weight ≡ w + v .parts) where
-    good-does : (n : ℕ) (o : Answer Expr) → Parted old n o v → v .code ≡ 0 → w + v .parts ≤ 3000 → n ≤ 4 * w → 60800 ≤ length old
+    good-does : (n : ℕ) (o : Answer Expr) → Parted old n o v → v .code ≡ 0 → w + v .parts ≤ 3000 → n ≤ 4 * w → 48016 ≤ length old
         → (r .code ≡ 0 → Goes n w r) × (said new r ≡ assigning at cell w o)
     good-does n (refused y q) h z l k f = absurd (code-pos y (sym (h .0) ∙ z))
     good-does n (given x) h z l k f =
@@ -158,7 +158,7 @@ module _ (old : List ℕ) (at : ℕ) (cell : Cell) (w : ℕ) (v : Part) (r : Wal
               ∙ sym (ap (λ a. a >>= λ m. unwound (assign cell x done) m) (weighs at (parts x) w (omega arith))),
         )
 
-    pub assigned-good : v .code ≡ 0 → w + v .parts ≤ 3000 → 60800 ≤ length old → AssignedDid old new at cell w v r
+    pub assigned-good : v .code ≡ 0 → w + v .parts ≤ 3000 → 48016 ≤ length old → AssignedDid old new at cell w v r
     assigned-good z l f = record { long = e .long; same = e .same; does = λ n o h k s. good-does n o h z l k f }
 
 -- ---- an IF

@@ -35,7 +35,7 @@ said new r = elim (eqb (r .code) 0) [ true ↦ unwound (listAt new (r .root)) (r
 
 -- n nodes stand, and w is the weight so far: there is room for whatever 3,000 allow
 abbrev pub Ready : List ℕ → ℕ → ℕ → Type 0
-Ready out n w = (n ≤ 4 * w) × (w ≤ 3000) × (60800 ≤ length out) × (length out ≤ 262144)
+Ready out n w = (n ≤ 4 * w) × (w ≤ 3000) × (48016 ≤ length out) × (length out ≤ 262144)
 
 -- from n nodes and the weight w on: at most four nodes for each unit of weight, and of a list that is not empty one fewer, for the node
 -- that puts it behind another

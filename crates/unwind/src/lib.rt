@@ -20,7 +20,7 @@ pub fn unwind_program(
     root: usize,
     out: &mut [u16],
 ) -> Walk
-    requires { ⌜ (4 * root + 4 ≤ length (now pool)) × (root ≤ 65535) × (cells ≤ 64) × (60800 ≤ length (now out)) × (length (now out) ≤ 262144) ⌝ }
+    requires { ⌜ (4 * root + 4 ≤ length (now pool)) × (root ≤ 65535) × (cells ≤ 64) × (48016 ≤ length (now out)) × (length (now out) ≤ 262144) ⌝ }
     ensures { λ r. ⌜ ProgramDid (now (text .entry)) (now (pool .entry)) (now (table .entry)) cells root (now (out .entry)) (now (out .exit)) r ⌝ }
 {
     let mut env = [0u32; 64];

@@ -87,7 +87,7 @@ pub fn linked(out: &mut [u16], count: usize, a: usize, b: usize, weight: usize) 
 
 // cell := v, where `v` was just walked; the weight passes 3,000 at `at`.
 fn assigned(out: &mut [u16], at: usize, cell: Cell, v: Part, weight: usize) -> Walk
-    requires { ⌜ (Room (now out) (v .count)) × (v .parts ≤ 3001) × (weight ≤ 3000) × (60800 ≤ length (now out)) ⌝ }
+    requires { ⌜ (Room (now out) (v .count)) × (v .parts ≤ 3001) × (weight ≤ 3000) × (48016 ≤ length (now out)) ⌝ }
     ensures { λ r. ⌜ AssignedDid (now (out .entry)) (now (out .exit)) at cell weight v r ⌝ }
 {
     if v.code != 0 {
