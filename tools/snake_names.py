@@ -17,6 +17,8 @@ WORD = r"[^\s(){}\[\].;,@\"«»|`]+"
 DECLARED = re.compile(
     rf"^(\s*)(?:(?:abbrev|unfoldable|pub|private)\s+)*({WORD})(?: \{{[^{{}}\n]*\}})*\s+:(?:\s|$)", re.M
 )
+# constructors or fields of one type, declared on one line
+SEVERAL = re.compile(rf"^\s+(?:pub )?({WORD}(?: {WORD})+) :(?:\s|$)")
 PLAIN = re.compile(r"^[A-Za-z][\w'\-]*$")
 # a string, a comment, an import, or one word with the dot before it
 PIECE = re.compile(
@@ -55,10 +57,13 @@ def declarations(text):
         if line.strip() and block is not None and indent <= block:
             block = None
         m = DECLARED.match(line)
+        several = SEVERAL.match(line)
         if re.match(r"\s*(?:pub )?(?:record|data) ", line):
             block = indent
         elif m and PLAIN.match(m[2]):
             yield m[2], block is not None
+        elif several and block is not None:
+            yield from ((name, True) for name in several[1].split() if PLAIN.match(name))
 
 
 def declared(paths):
@@ -101,7 +106,7 @@ def imported(text):
     ]
 
 
-def table_for(path, text, everywhere, yielding, at, inner):
+def table_for(path, text, everywhere, yielding, at):
     table = dict(everywhere)
     modules = {n: {module_of(p) for p in at[n]} for n in yielding}
     names = imported(text)
@@ -145,7 +150,7 @@ def main():
         if path.endswith(".rt"):
             table = camel
         else:
-            table = table_for(path, text, everywhere, yielding, at, inner)
+            table = table_for(path, text, everywhere, yielding, at)
         new = spelled(path, text, table, inner)
         if path.endswith(".antt"):
             before = set(re.findall(WORD, without_comments(text)))

@@ -81,10 +81,10 @@ mutual
   statement_at (suc f) d ts =
       then (started_at d ts) λ s h.
       elim s [
-        | R.atName ↦ kept (assignment_at_lem f d ts) h
-        | R.atIf ↦ kept (branch_at f d (here ts) (here ts) (behind ts)) h
-        | R.atCase ↦ kept (cases_at f d (here ts) (behind ts)) h
-        | R.atFor ↦ kept (repeat_at_lem f d (here ts) (behind ts)) h
+        | R.at_name ↦ kept (assignment_at_lem f d ts) h
+        | R.at_if ↦ kept (branch_at f d (here ts) (here ts) (behind ts)) h
+        | R.at_case ↦ kept (cases_at f d (here ts) (behind ts)) h
+        | R.at_for ↦ kept (repeat_at_lem f d (here ts) (behind ts)) h
         | R.at_empty ↦ gave ((λ k x. x), h)
       ]
 

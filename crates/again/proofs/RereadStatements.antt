@@ -61,10 +61,10 @@ module _ (vs : List Variable) where
   Front p r g = (s : S.Stmts) → Forms vs r s → Forms vs p (g s)
 
   -- a cell begins with a name
-  cell_starts : (c : Cell) (k : List Word) (ts : List Token) → Printed vs c → Says (cell_words vs c.0 k) ts → R.start_of ts ≡ some R.atName
+  cell_starts : (c : Cell) (k : List Word) (ts : List Token) → Printed vs c → Says (cell_words vs c.0 k) ts → R.start_of ts ≡ some R.at_name
   cell_starts c k ts h s = name_starts (rw (begins vs c k h).is at s)
     where
-      name_starts : {n : S.Name} {u : List Word} {ts : List Token} → Says (W.name n ∷ u) ts → R.start_of ts ≡ some R.atName
+      name_starts : {n : S.Name} {u : List Word} {ts : List Token} → Says (W.name n ∷ u) ts → R.start_of ts ≡ some R.at_name
       name_starts (says s) = refl
 
   assignment_of : (c : Cell) (e : Expr) (r : Stmts) (f d : ℕ) (k : List Word) (ts : List Token) → Printed vs c → Fit e → d ≤ 32 → Fuel 6 f
@@ -73,7 +73,7 @@ module _ (vs : List Variable) where
       → Gives (Front (assign c e r) r) (key ";" ∷ k) (R.statement (suc f) d ts)
   unfolding R.list bytes same_bytes
   assignment_of c e r f d k ts h x l fuel fuel' s =
-      rw (started d ts R.atName (cell_starts c _ ts h s) l, R.statement)
+      rw (started d ts R.at_name (cell_starts c _ ts h s) l, R.statement)
       (then (primary_cell vs c f 0 h (omega arith) refl fuel s) λ y q s.
       expects ":=" s λ us s.
       then (expression vs e f 0 x.0 (omega arith) refl refl fuel' s) λ z q' s.

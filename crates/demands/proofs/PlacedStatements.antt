@@ -63,11 +63,11 @@ module _ (P : ℕ → Type 0) where
   -- a statement by its first word
   of_start : {A : Type 0} {Q : A → Type 0} {n i c r e : Answer A} (s : Start)
       → Answers P Q n → Answers P Q i → Answers P Q c → Answers P Q r → Answers P Q e
-      → Answers P Q (elim s [ R.atName ↦ n | R.atIf ↦ i | R.atCase ↦ c | R.atFor ↦ r | R.at_empty ↦ e ])
-  of_start R.atName n i c r e = n
-  of_start R.atIf n i c r e = i
-  of_start R.atCase n i c r e = c
-  of_start R.atFor n i c r e = r
+      → Answers P Q (elim s [ R.at_name ↦ n | R.at_if ↦ i | R.at_case ↦ c | R.at_for ↦ r | R.at_empty ↦ e ])
+  of_start R.at_name n i c r e = n
+  of_start R.at_if n i c r e = i
+  of_start R.at_case n i c r e = c
+  of_start R.at_for n i c r e = r
   of_start R.at_empty n i c r e = e
 
   mutual

@@ -221,16 +221,16 @@ unfoldable mutual
 
 -- what a statement begins with
 pub data Start : Type 0 where
-  atName atIf atCase atFor at_empty : Start
+  at_name at_if at_case at_for at_empty : Start
 
 abbrev pub start_of : List Token → Option Start
 start_of ts =
     elim (a_name (next ts)) [
-      | some s ↦ some atName
+      | some s ↦ some at_name
       | none ↦
-          cond (sees "IF" ts) (some atIf)
-          (cond (sees "CASE" ts) (some atCase)
-          (cond (sees "FOR" ts) (some atFor)
+          cond (sees "IF" ts) (some at_if)
+          (cond (sees "CASE" ts) (some at_case)
+          (cond (sees "FOR" ts) (some at_for)
           (cond (sees ";" ts) (some at_empty)
           none)))
     ]
@@ -297,10 +297,10 @@ unfoldable mutual
   statement zero depth ts = broken ts
   statement (suc f) depth ts =
       started depth ts >>= λ s. elim s [
-        | atName ↦ assignment f ts
-        | atIf ↦ branch f depth (here ts) (here ts) (behind ts)
-        | atCase ↦ cases f depth (here ts) (behind ts)
-        | atFor ↦ repeat f depth (here ts) (behind ts)
+        | at_name ↦ assignment f ts
+        | at_if ↦ branch f depth (here ts) (here ts) (behind ts)
+        | at_case ↦ cases f depth (here ts) (behind ts)
+        | at_for ↦ repeat f depth (here ts) (behind ts)
         | at_empty ↦ ok (λ k. k) ts
       ]
 

@@ -13,7 +13,7 @@ use Rattle.paper.specs.Refusals.{Answer, refused, given, ◌>>=◌}
 use Rattle.paper.specs.Words.{Token}
 use Rattle.paper.specs.Source.{Stmts}
 use Rattle.paper.specs.Reading as R
-use Rattle.paper.specs.Reading.{Read, ok, Start, atName, atIf, atCase, atFor, at_empty}
+use Rattle.paper.specs.Reading.{Read, ok, Start, at_name, at_if, at_case, at_for, at_empty}
 use Rattle.words.specs.declared.Word.{Word}
 use Rattle.words.specs.Denoted.{words_at, IsWord}
 use Rattle.tree.specs.Trees.{front_at}
@@ -30,7 +30,7 @@ use Rattle.statements.proofs.Ways.{a_name_lem, no_name}
 
 module _ (f depth : ℕ) (ts : List Token) where
   abbrev begun : Start → Answer (Read (Stmts → Stmts))
-  begun s = elim s [ atName ↦ R.assignment f ts | atIf ↦ R.branch f depth (R.here ts) (R.here ts) (R.behind ts) | atCase ↦ R.cases f depth (R.here ts) (R.behind ts) | atFor ↦ R.repeat f depth (R.here ts) (R.behind ts) | at_empty ↦ ok (λ k. k) ts ]
+  begun s = elim s [ at_name ↦ R.assignment f ts | at_if ↦ R.branch f depth (R.here ts) (R.here ts) (R.behind ts) | at_case ↦ R.cases f depth (R.here ts) (R.behind ts) | at_for ↦ R.repeat f depth (R.here ts) (R.behind ts) | at_empty ↦ ok (λ k. k) ts ]
 
   statement_0 : (a : Answer Start) → R.started depth ts ≡ a → R.statement (suc f) depth ts ≡ (a >>= λ s. begun s)
   unfolding R.list
@@ -48,17 +48,17 @@ module _ (f depth : ℕ) (ts : List Token) where
 -- ---- what a class begins
 
 module _ (t : List ℕ) (at : ℕ) (w : Word) (i : IsWord t at w) (ts : List Token) (h : words_at t at ≡ given ts) where
-  start_name : w.class ≡ 1 → R.start_of ts ≡ some atName
+  start_name : w.class ≡ 1 → R.start_of ts ≡ some at_name
   start_name e = rw (a_name_lem t at w i ts h e, R.start_of)
 
-  start_if : w.class ≡ 11 → R.start_of ts ≡ some atIf
+  start_if : w.class ≡ 11 → R.start_of ts ≡ some at_if
   start_if e = rw (no_name t at w i ts h (λ z. omega arith), sees_it t at w i ts h "IF" 11 key_if e, R.start_of)
 
-  start_case : w.class ≡ 16 → R.start_of ts ≡ some atCase
+  start_case : w.class ≡ 16 → R.start_of ts ≡ some at_case
   start_case e =
       rw (no_name t at w i ts h (λ z. omega arith), sees_other t at w i ts h "IF" 11 key_if (λ z. omega arith), sees_it t at w i ts h "CASE" 16 key_case e, R.start_of)
 
-  start_for : w.class ≡ 18 → R.start_of ts ≡ some atFor
+  start_for : w.class ≡ 18 → R.start_of ts ≡ some at_for
   start_for e =
       rw (no_name t at w i ts h (λ z. omega arith), sees_other t at w i ts h "IF" 11 key_if (λ z. omega arith), sees_other t at w i ts h "CASE" 16 key_case (λ z. omega arith), sees_it t at w i ts h "FOR" 18 key_for e, R.start_of)
 
@@ -119,7 +119,7 @@ module _ {t : List ℕ} {at n : ℕ} (depth : ℕ) {w : Word} (i : IsWord t at w
         go : Runs (front_at t new) t at 0 12 (λ f ts. R.statement f depth ts) r
         go ts h zero l = absurd (omega arith)
         go ts h (suc f) l =
-            rw (some_0 f depth ts d atName (start_name t at w i ts h e))
+            rw (some_0 f depth ts d at_name (start_name t at w i ts h e))
             (weaken (front_at t new) t 0 (length ts) 1 (length ts) (R.assignment f ts) r (omega arith) (X.runs ts h f (omega arith)))
 
     -- behind the first word of one that has such a word
@@ -136,10 +136,10 @@ module _ {t : List ℕ} {at n : ℕ} (depth : ℕ) {w : Word} (i : IsWord t at w
             (weaken (front_at t new) t 0 (length ts) 1 (length (R.behind ts)) (body f w.at (R.behind ts)) r (omega arith) (X.runs (R.behind ts) b.0 f (omega arith)))
 
     pub statement_if : w.class ≡ 11 → BranchDid t old new w.end depth n w.at w.at r → StatementDid t old new at depth n r
-    statement_if e X = worded 11 e refl (λ f p ts. R.branch f depth p p ts) (λ f ts h. some_0 f depth ts d atIf (start_if t at w i ts h e)) X
+    statement_if e X = worded 11 e refl (λ f p ts. R.branch f depth p p ts) (λ f ts h. some_0 f depth ts d at_if (start_if t at w i ts h e)) X
 
     pub statement_case : w.class ≡ 16 → CasesDid t old new w.end depth n w.at r → StatementDid t old new at depth n r
-    statement_case e X = worded 16 e refl (λ f p ts. R.cases f depth p ts) (λ f ts h. some_0 f depth ts d atCase (start_case t at w i ts h e)) X
+    statement_case e X = worded 16 e refl (λ f p ts. R.cases f depth p ts) (λ f ts h. some_0 f depth ts d at_case (start_case t at w i ts h e)) X
 
     pub statement_for : w.class ≡ 18 → RepeatDid t old new w.end depth n w.at r → StatementDid t old new at depth n r
-    statement_for e X = worded 18 e refl (λ f p ts. R.repeat f depth p ts) (λ f ts h. some_0 f depth ts d atFor (start_for t at w i ts h e)) X
+    statement_for e X = worded 18 e refl (λ f p ts. R.repeat f depth p ts) (λ f ts h. some_0 f depth ts d at_for (start_for t at w i ts h e)) X

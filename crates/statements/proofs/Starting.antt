@@ -18,8 +18,8 @@ abbrev begins : Option (List ℕ) → Bool → Bool → Bool → Bool → Bool
 begins o b d e f =
     is_some {A = R.Start}
     (elim o [
-      | some x ↦ some R.atName
-      | none ↦ cond b (some R.atIf) (cond d (some R.atCase) (cond e (some R.atFor) (cond f (some R.at_empty) none)))
+      | some x ↦ some R.at_name
+      | none ↦ cond b (some R.at_if) (cond d (some R.at_case) (cond e (some R.at_for) (cond f (some R.at_empty) none)))
     ])
 
 begins_any : (s : List ℕ) (a b d e f : Bool) → begins (cond a (some s) none) b d e f ≡ ((((a || b) || d) || e) || f)
