@@ -1,9 +1,11 @@
 // The types that every crate shares, in the words of document 01. What they mean stands in specs/.
+#![tactic(auto)]
+
 ghost use Rattle.std.specs.Prelude.{◌≡◌};
 ghost use Rattle.paper.specs.Refusals.{number_of};
 
 // The five types.
-#[derive(Drop)]
+#[derive(Clone, Copy)]
 pub enum Ty {
     Bool,
     Int,
@@ -13,7 +15,7 @@ pub enum Ty {
 }
 
 // The section kinds, in printed order.
-#[derive(Drop)]
+#[derive(Clone, Copy)]
 pub enum Kind {
     Input,
     Output,
@@ -21,7 +23,7 @@ pub enum Kind {
 }
 
 // The operators with two operands.
-#[derive(Drop)]
+#[derive(Clone, Copy)]
 pub enum Op {
     Mul,
     Div,
@@ -40,14 +42,14 @@ pub enum Op {
 }
 
 // A cell's number and a row's number are counted apart.
-#[derive(Drop)]
+#[derive(Clone, Copy)]
 pub struct Cell(pub u16);
 
-#[derive(Drop)]
+#[derive(Clone, Copy)]
 pub struct Row(pub u16);
 
 // Why something is refused, in the order of the refusals' numbers.
-#[derive(Drop)]
+#[derive(Clone, Copy)]
 pub enum Why {
     TooLong,
     NoWord,
@@ -64,7 +66,7 @@ pub enum Why {
 }
 
 // What acceptance answers: four numbers, or why not, and a place in the text.
-#[derive(Drop)]
+#[derive(Clone, Copy)]
 pub enum Verdict {
     Accepted {
         cells: usize,
