@@ -42,9 +42,9 @@ module _ {s : State} where
   expression_made (P.complement e) u h v =
       let x = expression_made e _ h.1 v in
       pushed (T.complement _ _) x.grows (ap (λ a. bit (not (is_true a))) x.stands.is)
-  expression_made (P.binary o t l r) u h v =
+  expression_made {env = env} {rs = rs} (P.binary o t l r) u h v =
       let x = expression_made l _ h.2 v in
-      let y = expression_made r _ h.3 (env_grown x.grows v) in
+      let y = expression_made {rs = (expression_rows env l rs).rows} r _ h.3 (env_grown x.grows v) in
       pushed (T.binary o t _ _) (grows_trans x.grows y.grows)
       (ap₂ (apply o t) (stands_grown y.grows x.stands).is y.stands.is)
   expression_made (P.conversion t u e) q h v =
@@ -61,7 +61,7 @@ module _ {s : State} where
   merged false u hc ha hb = record { grows = grows_refl; stands = ha }
 
   -- every cell behind an IF, from the cell number i on
-  merge_bound : {is : List Info} {rs more : List Line} {c : Row} {x : Tree} {xs ys : List Row} {ρ σ : List Tree} (w : ℕ → Bool) (i : ℕ)
+  merge_bound : {rs more : List Line} {is : List Info} {c : Row} {x : Tree} {xs ys : List Row} {ρ σ : List Tree} (w : ℕ → Bool) (i : ℕ)
       → Grows s rs more → Stands s more c x → Env s rs is xs ρ → Env s rs is ys σ
       → BoundTo s more is (merge w i c is xs ys more) (merge_trees w i x ρ σ)
   unfolding merge merge_trees
@@ -72,7 +72,7 @@ module _ {s : State} where
       record { grows = grows_trans x.grows y.grows; env_stands = cell (stands_grown y.grows x.stands) y.env_stands }
 
   -- the rows behind the statements stand for the trees behind them
-  statements_bound : {is : List Info} {env : List Row} {ρ : List Tree} {rs : List Line} (p : Stmts) → WellTyped is p → Env s rs is env ρ
+  statements_bound : (p : Stmts) {is : List Info} {env : List Row} {ρ : List Tree} {rs : List Line} → WellTyped is p → Env s rs is env ρ
       → BoundTo s rs is (statement_rows is p env rs) (symbolic p ρ)
   unfolding statement_rows symbolic either
   statements_bound P.done h v = record { grows = grows_refl; env_stands = v }

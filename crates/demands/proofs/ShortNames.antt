@@ -28,4 +28,4 @@ pub short_names : (t : List ℕ) (ts : List Token) (pr : Program) → words_of t
 short_names t ts pr w e =
     let words : Words Any ts = given_at ts (rw w at (words_at_lem Any t (λ q h. tt))) in
     let whole : Whole Any pr = given_at pr (rw e at (program_at_lem Any words)) in
-    record { own = whole.own_val; declared = declared_short pr.declared whole.declared }
+    record { own = whole.own; declared = declared_short pr.declared whole.declared }

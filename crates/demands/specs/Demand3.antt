@@ -1,6 +1,6 @@
 -- Demand 3: a field for each of its sentences.
 use Rattle.std.specs.Prelude.{◌≡◌, List, [], ◌∷◌, map, ℕ, ◌+◌, ◌≤◌, length}
-use Rattle.std.proofs.Math.Option.{Option, none, some}
+use Rattle.std.proofs.Math.Option.{none, some}
 use Rattle.paper.specs.Refusals.{given}
 use Rattle.paper.specs.Plain.{State, Ran, figure, weight}
 use Rattle.paper.specs.Tables.{Table, table_in, lent_of}

@@ -1,5 +1,5 @@
 -- Values that lie in their types.
-use Rattle.std.specs.Prelude.{◌≡◌, Bool, true, false, List, [], ◌∷◌, ℕ, ◌^◌, ◌<◌}
+use Rattle.std.specs.Prelude.{◌≡◌, true, List, [], ◌∷◌, ℕ, ◌^◌, ◌<◌}
 use Rattle.paper.specs.Types.{width}
 use Rattle.paper.specs.Names.{Info}
 use Rattle.paper.specs.Plain.{State}

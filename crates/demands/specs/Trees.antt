@@ -1,5 +1,5 @@
 -- The table's expressions as trees: for each cell one expression over the values at the scan's start, by symbolic execution.
-use Rattle.std.specs.Prelude.{Bool, true, false, not, cond, ◌||◌, List, [], ◌∷◌, map, ℕ, zero, suc, ℤ, get_or, set}
+use Rattle.std.specs.Prelude.{Bool, false, not, cond, ◌||◌, List, [], ◌∷◌, ℕ, zero, suc, ℤ, get_or, set}
 use Rattle.paper.specs.declared.Ty.{Ty}
 use Rattle.paper.specs.declared.Op.{Op}
 use Rattle.paper.specs.declared.Cell.{Cell}
