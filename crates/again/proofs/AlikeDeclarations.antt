@@ -11,7 +11,7 @@ use Rattle.paper.specs.declared.Kind.TheVariants.{Input, Output, Other}
 use Rattle.paper.specs.Types.{is_integer, fits, for_numbers}
 use Rattle.paper.specs.Words.{same_bytes}
 use Rattle.paper.specs.Source.{Name, Bounds, Initial, value, Declared}
-use Rattle.paper.specs.Names.{same_kind, of_kind, printed, at, reversed, declaration_faults}
+use Rattle.paper.specs.Names.{same_kind, of_kind, printed, at, reversed}
 use Rattle.paper.specs.Typing as T
 use Rattle.demands.specs.InTypes.{All}
 use Rattle.demands.proofs.Lists.{both_all}

@@ -61,6 +61,16 @@ assignment_at_lem f d ts =
     then (whatever (R.expression f 0 1 us)) λ e _.
     gave (λ k h. h)
 
+-- a statement by its first word
+of_start : {A : Type 0} {Q : A → Type 0} {n i c r e : Answer A} (s : Start)
+    → Answers Any Q n → Answers Any Q i → Answers Any Q c → Answers Any Q r → Answers Any Q e
+    → Answers Any Q (elim s [ R.at_name ↦ n | R.at_if ↦ i | R.at_case ↦ c | R.at_for ↦ r | R.at_empty ↦ e ])
+of_start R.at_name n i c r e = n
+of_start R.at_if n i c r e = i
+of_start R.at_case n i c r e = c
+of_start R.at_for n i c r e = r
+of_start R.at_empty n i c r e = e
+
 mutual
   unfolding R.list nest
 
@@ -80,13 +90,12 @@ mutual
   statement_at zero d ts = stopped tt
   statement_at (suc f) d ts =
       then (started_at d ts) λ s h.
-      elim s [
-        | R.at_name ↦ kept (assignment_at_lem f d ts) h
-        | R.at_if ↦ kept (branch_at f d (here ts) (here ts) (behind ts)) h
-        | R.at_case ↦ kept (cases_at f d (here ts) (behind ts)) h
-        | R.at_for ↦ kept (repeat_at_lem f d (here ts) (behind ts)) h
-        | R.at_empty ↦ gave ((λ k x. x), h)
-      ]
+      of_start s
+      (kept (assignment_at_lem f d ts) h)
+      (kept (branch_at f d (here ts) (here ts) (behind ts)) h)
+      (kept (cases_at f d (here ts) (behind ts)) h)
+      (kept (repeat_at_lem f d (here ts) (behind ts)) h)
+      (gave ((λ k x. x), h))
 
   branch_at : (f d p q : ℕ) (ts : List Token) → Gets (Front d) (R.branch f d p q ts)
   branch_at zero d p q ts = stopped tt

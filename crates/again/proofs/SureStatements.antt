@@ -19,7 +19,7 @@ use Rattle.paper.specs.Names.{Variable, same_kind, find, is_among}
 use Rattle.paper.specs.Typing as T
 use Rattle.paper.specs.Typing.{Settled, judged, settled, type_of, type_in}
 use Rattle.paper.specs.Heights as H
-use Rattle.paper.specs.Plain.{Expr, Stmts, done, assign, choice, State, store}
+use Rattle.paper.specs.Plain.{Expr, State, store}
 use Rattle.paper.specs.Meaning.{whole_value, value}
 use Rattle.paper.specs.Unwinding as U
 use Rattle.paper.specs.Unwinding.{Unwound, Selector, no_selector}
@@ -33,7 +33,7 @@ use Rattle.demands.proofs.Expressions.{Faultless, fit_of, settled_type}
 use Rattle.demands.proofs.Assignments.{offered_own, demanded}
 use Rattle.demands.proofs.Targets.{aimed}
 use Rattle.demands.proofs.Walks.{selector_of, body_of, assign_walk, choice_walk, select_walk, arm_walk, loop_walk}
-use Rattle.again.proofs.Forms.{height, depth}
+use Rattle.again.proofs.Forms.{depth}
 use Rattle.again.proofs.Sure.{Low}
 use Rattle.again.proofs.SureExpressions.{is_none, SureForm, sure_form}
 use Rattle.again.proofs.SureTests.{SureSelector, none_sure, low_enough, tests_low}
