@@ -1,5 +1,7 @@
 // The five types and what operations do, on residues. Each function is total: it answers what its definition says for any arguments.
 // Sums, differences and products are worked out on the residues themselves; quotients and orders on the values, in i64.
+#![tactic(auto)]
+
 ghost use Rattle.std.specs.Prelude.{◌≡◌, cond, ◌-◌, ◌%◌, ◌^◌};
 ghost use Rattle.std.proofs.Math.ListN.{get_elem?};
 ghost use Rattle.std.specs.Int.Signed.{lt_z, le_z};
@@ -46,7 +48,7 @@ pub fn same_type(t: Ty, u: Ty) -> bool
 }
 
 // What a number names: a type, or nothing.
-#[derive(Drop)]
+#[derive(Clone, Copy)]
 pub enum Known {
     Type(Ty),
     Unknown,
