@@ -1,4 +1,6 @@
 // The document's examples of arithmetic, on residues: proved from the contracts, and run.
+#![tactic(auto)]
+
 use paper::Ty;
 
 fn main() {
