@@ -4,7 +4,7 @@ ghost use Rattle.words.specs.Denoted.{IsWord};
 
 use crate::{Word, word_from};
 
-#[derive(Drop)]
+#[derive(Clone, Copy)]
 pub struct Reader<'a> {
     pub text: &'a [u8],
     pub at: usize,

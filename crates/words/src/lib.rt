@@ -1,4 +1,6 @@
 // One word at a place of a text, as document 01 cuts words: blanks and comments skipped, the longest run or sign taken.
+#![tactic(auto)]
+
 ghost use Rattle.std.specs.Prelude.{◌≡◌, ◌+◌, ◌-◌, ◌*◌, ◌%◌, ◌≤◌, ◌<◌, Bool, true, false, eqb, length, get_or, drop};
 ghost use Rattle.paper.specs.Words.{is_blank, is_digit, in_run, capital, same_bytes};
 ghost use Rattle.words.specs.Keys.{key_digit, key_of, keyword_keys, operand_keys, Numbered, forms, Excludes};
@@ -22,7 +24,7 @@ pub const SIGN: u8 = 54;
 pub const BAD: u8 = 255;
 
 // A word: its class, its first byte, the place behind it, and a number's value.
-#[derive(Drop)]
+#[derive(Clone, Copy)]
 pub struct Word {
     pub class: u8,
     pub at: usize,
@@ -31,28 +33,28 @@ pub struct Word {
 }
 
 // Where blanks and comments end; a comment that isn't closed stops them at its `(`.
-#[derive(Drop)]
+#[derive(Clone, Copy)]
 pub struct Gap {
     pub at: usize,
     pub open: bool,
 }
 
 // A run: where it ends, and whether its underscores are placed well, each alone and before a letter or a digit.
-#[derive(Drop)]
+#[derive(Clone, Copy)]
 pub struct Run {
     pub end: usize,
     pub parted: bool,
 }
 
 // The value of a run of digits, if it is a number.
-#[derive(Drop)]
+#[derive(Clone, Copy)]
 pub struct Numeral {
     pub good: bool,
     pub value: u32,
 }
 
 // Where the first bad word stands, if there is one.
-#[derive(Drop)]
+#[derive(Clone, Copy)]
 pub enum FirstBad {
     At(usize),
     Nowhere,
