@@ -1,4 +1,6 @@
 // The flat tree that reading leaves in a lent pool: four words a node, children before parents, node 0 nil.
+#![tactic(auto)]
+
 ghost use Rattle.std.specs.Prelude.{◌≡◌, ◌+◌, ◌*◌, ◌<◌, ◌≤◌, length};
 ghost use Rattle.tree.specs.Nodes.{word_of, kind_of, child_of, written};
 ghost use Rattle.tree.specs.Trees.{wide, whole_at, IsHeight};
