@@ -7,7 +7,7 @@ use Prim.Native.String.{String}
 use native.Mathlib.Omega.{arith}
 use native.Mathlib.Numerals.{add-one}
 use lib.ListN.{length}
-use Rattle.paper.specs.Refusals.{Answer, refused, given, number_of, ◌>>=◌}
+use Rattle.paper.specs.Refusals.{Answer, refused, given, ◌>>=◌}
 use Rattle.paper.proofs.Whys.{code_pos}
 use Rattle.paper.specs.Words.{Token}
 use Rattle.paper.specs.Source.{Expr}

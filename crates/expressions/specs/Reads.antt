@@ -1,5 +1,5 @@
 -- What the answers of reading stand for: the tree in the pool is that of `paper`'s Reading, and the place is where its words go on.
-use Rattle.std.specs.Prelude.{◌≡◌, List, [], ◌∷◌, Bool, true, false, cond, ℕ, ◌+◌, ◌*◌, ◌≤◌, ◌<◌, ◌/◌, ◌%◌, length, get_or, eqb}
+use Rattle.std.specs.Prelude.{◌≡◌, List, ◌∷◌, false, cond, ℕ, ◌+◌, ◌*◌, ◌≤◌, ◌<◌, ◌/◌, ◌%◌, length, get_or, eqb}
 use Rattle.std.proofs.Math.Option.{none, some}
 use Prim.Native.String.{String}
 use Rattle.std.proofs.Math.ListN.{get_elem?}
@@ -15,8 +15,7 @@ use Rattle.paper.specs.Reading.{Read, ok}
 use Rattle.words.specs.declared.Word.{Word}
 use Rattle.words.specs.Denoted.{words_at, denoted, IsWord}
 use Rattle.tree.specs.Nodes.{Same}
-use Rattle.tree.specs.Trees as T
-use Rattle.tree.specs.Trees.{types, operators, expr_at, front_at, name_at}
+use Rattle.tree.specs.Trees.{types, operators, expr_at, name_at}
 use Rattle.expressions.specs.declared.Parsed.{Parsed}
 
 -- where reading from `at`, with n nodes before it, can end

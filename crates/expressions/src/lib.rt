@@ -1,5 +1,7 @@
 // Expressions read into the flat tree: refusals 3 and 4, or the expression's node. Operands and operators, brackets and subscripts
 // call each other; what is left of the text falls.
+#![tactic(auto)]
+
 ghost use Rattle.std.specs.Prelude.{◌≡◌, ◌+◌, ◌*◌, ◌%◌, ◌/◌, ◌<◌, ◌≤◌, length};
 ghost use Rattle.words.specs.Denoted.{IsWord};
 ghost use Rattle.expressions.specs.Reads.{Room, ExpectDid, ExpectedDid, OperandDid, SignedDid, PrimaryDid, WrappedDid, BracketedDid, NamedDid, ExpressionDid, JoinedDid};
@@ -13,7 +15,7 @@ use tree::put;
 use words::{NAME, NUMBER, Word, next_word};
 
 // What reading answers: code 0, the place behind what was read, the last node and the root; or a refusal's number and its place.
-#[derive(Drop)]
+#[derive(Clone, Copy)]
 pub struct Parsed {
     pub code: u8,
     pub at: usize,
@@ -93,7 +95,7 @@ pub fn leaf(at: usize, n: usize) -> Parsed
 }
 
 // An operand: at most one unary sign; a minus before a number makes it negative.
-#[cycle(bracketed_expression_joined_named_operand_primary_signed_wrapped)]
+#[cycle(reading)]
 pub fn operand(text: &[u8], at: usize, nest: usize, pool: &mut [u16], count: usize) -> Parsed
     requires { Room text.now pool.old at count }
     ensures { OperandDid text.now pool.old pool.new at nest count result }
@@ -115,7 +117,7 @@ pub fn operand(text: &[u8], at: usize, nest: usize, pool: &mut [u16], count: usi
 }
 
 // What a unary sign at `place` stands before; its first word is `w`.
-#[cycle(bracketed_expression_joined_named_operand_primary_signed_wrapped)]
+#[cycle(reading)]
 fn signed(
     text: &[u8],
     at: usize,
@@ -138,7 +140,7 @@ fn signed(
 }
 
 // A number, a truth value, a name with or without subscript, a conversion, brackets; `w` is its first word.
-#[cycle(bracketed_expression_joined_named_operand_primary_signed_wrapped)]
+#[cycle(reading)]
 pub fn primary(
     text: &[u8],
     at: usize,
@@ -174,7 +176,7 @@ pub fn primary(
 }
 
 // Brackets that begin with `w`, or a conversion's, under a node of their own at `place`.
-#[cycle(bracketed_expression_joined_named_operand_primary_signed_wrapped)]
+#[cycle(reading)]
 fn wrapped(
     text: &[u8],
     at: usize,
@@ -198,7 +200,7 @@ fn wrapped(
 }
 
 // ( expression ), if the word `w` opens it.
-#[cycle(bracketed_expression_joined_named_operand_primary_signed_wrapped)]
+#[cycle(reading)]
 fn bracketed(text: &[u8], at: usize, w: Word, nest: usize, pool: &mut [u16], count: usize) -> Parsed
     requires { Room text.now pool.old at count × IsWord text.now at w }
     ensures { BracketedDid text.now pool.old pool.new at nest count result }
@@ -226,7 +228,7 @@ fn bracketed(text: &[u8], at: usize, w: Word, nest: usize, pool: &mut [u16], cou
 }
 
 // A name that stands from `place` to `end`, with one subscript or none.
-#[cycle(bracketed_expression_joined_named_operand_primary_signed_wrapped)]
+#[cycle(reading)]
 fn named(
     text: &[u8],
     place: usize,
@@ -266,7 +268,7 @@ fn named(
 }
 
 // Operands joined by operators that bind at least as tightly as `least`.
-#[cycle(bracketed_expression_joined_named_operand_primary_signed_wrapped)]
+#[cycle(reading)]
 pub fn expression(
     text: &[u8],
     at: usize,
@@ -286,7 +288,7 @@ pub fn expression(
 }
 
 // What follows the operand at the node `left`; equal operators group to the left. A loop, so that a long chain takes no more stack.
-#[cycle(bracketed_expression_joined_named_operand_primary_signed_wrapped)]
+#[cycle(reading)]
 fn joined(
     text: &[u8],
     at: usize,
