@@ -1,4 +1,6 @@
 // Statements and lists read into the flat tree, in a cycle of calls; what is left of the text falls.
+#![tactic(auto)]
+
 ghost use Rattle.std.specs.Prelude.{◌≡◌, ◌+◌, ◌*◌, ◌<◌, ◌≤◌, length};
 ghost use Rattle.words.specs.Denoted.{IsWord};
 ghost use Rattle.expressions.specs.Reads.{Room};
@@ -20,7 +22,7 @@ pub fn starts(class: u8) -> bool
 }
 
 // One or more statements, each ended by `;`; `before` is the list read so far.
-#[cycle(arms_branch_branches_cases_closing_list_more_arms_otherwise_repeat_statement)]
+#[cycle(reading)]
 pub fn list(
     text: &[u8],
     at: usize,
@@ -88,7 +90,7 @@ fn linked(pool: &mut [u16], count: usize, before: usize, s: usize) -> Parsed
 }
 
 // A statement whose first word is `w`; nil for an empty one. 3 at a word that starts none, else 4 where it is too deep.
-#[cycle(arms_branch_branches_cases_closing_list_more_arms_otherwise_repeat_statement)]
+#[cycle(reading)]
 fn statement(
     text: &[u8],
     at: usize,
@@ -166,7 +168,7 @@ fn assignment(text: &[u8], at: usize, w: Word, pool: &mut [u16], count: usize) -
 }
 
 // Behind IF or ELSIF at `p`: a condition, its list, and what follows; the IF stands at `q`.
-#[cycle(arms_branch_branches_cases_closing_list_more_arms_otherwise_repeat_statement)]
+#[cycle(reading)]
 fn branch(
     text: &[u8],
     at: usize,
@@ -203,7 +205,7 @@ fn branch(
 }
 
 // The two lists of an IF, up to END_IF.
-#[cycle(arms_branch_branches_cases_closing_list_more_arms_otherwise_repeat_statement)]
+#[cycle(reading)]
 fn branches(
     text: &[u8],
     at: usize,
@@ -235,7 +237,7 @@ fn branches(
 }
 
 // ELSIF, ELSE or nothing, up to END_IF; an ELSIF is an IF one deeper.
-#[cycle(arms_branch_branches_cases_closing_list_more_arms_otherwise_repeat_statement)]
+#[cycle(reading)]
 fn otherwise(
     text: &[u8],
     at: usize,
@@ -255,7 +257,7 @@ fn otherwise(
 }
 
 // An ELSE list or nothing, and the closing word; `w` is the first word.
-#[cycle(arms_branch_branches_cases_closing_list_more_arms_otherwise_repeat_statement)]
+#[cycle(reading)]
 fn closing(
     text: &[u8],
     at: usize,
@@ -288,7 +290,7 @@ fn closing(
 }
 
 // Behind CASE at `p`.
-#[cycle(arms_branch_branches_cases_closing_list_more_arms_otherwise_repeat_statement)]
+#[cycle(reading)]
 fn cases(text: &[u8], at: usize, depth: usize, pool: &mut [u16], count: usize, p: usize) -> Parsed
     requires { Room text.now pool.old at count × (depth ≤ 32 + at) × (p < 65536) }
     ensures { CasesDid text.now pool.old pool.new at depth count p result }
@@ -317,7 +319,7 @@ fn cases(text: &[u8], at: usize, depth: usize, pool: &mut [u16], count: usize, p
 }
 
 // An arm and what follows it, up to END_CASE.
-#[cycle(arms_branch_branches_cases_closing_list_more_arms_otherwise_repeat_statement)]
+#[cycle(reading)]
 fn arms(text: &[u8], at: usize, depth: usize, pool: &mut [u16], count: usize) -> Parsed
     requires { Room text.now pool.old at count × (depth ≤ 32 + at) }
     ensures { ArmsDid text.now pool.old pool.new at depth count result }
@@ -346,7 +348,7 @@ fn arms(text: &[u8], at: usize, depth: usize, pool: &mut [u16], count: usize) ->
 }
 
 // The next arm, one deeper, or ELSE or nothing, up to END_CASE.
-#[cycle(arms_branch_branches_cases_closing_list_more_arms_otherwise_repeat_statement)]
+#[cycle(reading)]
 fn more_arms(text: &[u8], at: usize, depth: usize, pool: &mut [u16], count: usize) -> Parsed
     requires { Room text.now pool.old at count × (depth < 32 + at) }
     ensures { MoreArmsDid text.now pool.old pool.new at depth count result }
@@ -442,7 +444,7 @@ pub fn signed_number(text: &[u8], at: usize, pool: &mut [u16], count: usize) -> 
 }
 
 // Behind FOR at `p`.
-#[cycle(arms_branch_branches_cases_closing_list_more_arms_otherwise_repeat_statement)]
+#[cycle(reading)]
 fn repeat(text: &[u8], at: usize, depth: usize, pool: &mut [u16], count: usize, p: usize) -> Parsed
     requires { Room text.now pool.old at count × (depth ≤ 32 + at) × (p < 65536) }
     ensures { RepeatDid text.now pool.old pool.new at depth count p result }
