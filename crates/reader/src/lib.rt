@@ -1,4 +1,6 @@
 // Declarations, and the whole program, read into the flat tree.
+#![tactic(auto)]
+
 ghost use Rattle.std.specs.Prelude.{◌+◌, ◌*◌, ◌<◌, ◌≤◌, length};
 ghost use Rattle.expressions.specs.Reads.{Room};
 ghost use Rattle.reader.specs.Declarations.{NumberDid, NamesDid, BoundsPartDid, ArrayBoundsDid, ArrayEndDid, InitialPartDid, InitialDid, TypingDid, DeclarationDid, SectionDid, SectionsDid, BodyDid, ProgramDid};
