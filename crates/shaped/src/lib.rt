@@ -1,10 +1,12 @@
 // The refusals 1 to 4 of a text, one after another.
+#![tactic(auto)]
+
 ghost use Rattle.shaped.specs.Shapes.{TreeFits, ShapeDid};
 
 use words::FirstBad;
 
 // A refusal's number and its place; 0 and 0 where the text is well shaped, and then the root of its tree.
-#[derive(Drop)]
+#[derive(Clone, Copy)]
 pub struct Shape {
     pub number: u64,
     pub place: u64,
