@@ -1,4 +1,6 @@
 // The smallest of the places of faults: one more than it is carried, and 0 where there is none.
+#![tactic(auto)]
+
 ghost use Rattle.std.specs.Prelude.{◌≡◌, suc};
 ghost use Rattle.faults.specs.Soonest.{sooner, or_else_of, unless_of, matter};
 
