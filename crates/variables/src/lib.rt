@@ -1,4 +1,6 @@
 // The table of variables: four words each, the place of its name, the node of its declaration, its first cell, its name's key.
+#![tactic(auto)]
+
 ghost use Rattle.std.specs.Prelude.{◌≡◌, ◌+◌, ◌*◌, ◌/◌, ◌≤◌, ◌<◌, length, get_or};
 ghost use Rattle.paper.specs.declared.Ty.TheVariants.{Bool as BOOL};
 ghost use Rattle.paper.specs.Names.{size_of, is_array, kind_tag, is_among};
