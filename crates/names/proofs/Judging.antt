@@ -10,7 +10,6 @@ use Rattle.paper.specs.declared.Kind.{Kind}
 use Rattle.paper.specs.declared.Kind.TheVariants.{Input, Output, Other}
 use Rattle.paper.specs.Source.{Declared, done}
 use Rattle.paper.specs.Names.{same_kind, of_kind, printed, placed, variables_of, cells_of, declaration_faults, statement_faults, name_faults}
-use Rattle.faults.specs.Soonest.{soonest}
 use Rattle.tree.specs.Nodes.{child_of}
 use Rattle.tree.specs.Trees.{declared_at, front_at, program_at}
 use Rattle.variables.specs.Table.{entries, variables_in, names_to}

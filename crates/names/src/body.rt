@@ -191,7 +191,7 @@ fn assignment(
 }
 
 // The two lists of an IF, at the node `j`.
-#[cycle(arms_branches_repeat_statements)]
+#[cycle(walk)]
 fn branches(
     text: &[u8],
     pool: &[u16],
@@ -209,7 +209,7 @@ fn branches(
 }
 
 // A FOR, from the node of its head and that of its body.
-#[cycle(arms_branches_repeat_statements)]
+#[cycle(walk)]
 fn repeat(
     text: &[u8],
     pool: &[u16],
@@ -229,7 +229,7 @@ fn repeat(
 }
 
 // The faults of the statements at a node, `depth` FORs being around.
-#[cycle(arms_branches_repeat_statements)]
+#[cycle(walk)]
 pub fn statements(
     text: &[u8],
     pool: &[u16],
@@ -270,7 +270,7 @@ pub fn statements(
 }
 
 // The arms of a CASE and its ELSE list.
-#[cycle(arms_branches_repeat_statements)]
+#[cycle(walk)]
 fn arms(
     text: &[u8],
     pool: &[u16],

@@ -9,7 +9,7 @@ use tree::{child, word};
 use variables::{among, size_of};
 
 // Names seen so far, their cells (65 stands for more than 64) and the soonest fault.
-#[derive(Drop)]
+#[derive(Clone, Copy)]
 pub struct Seen {
     pub count: usize,
     pub cells: usize,

@@ -1,4 +1,6 @@
 // Declared names, their table, and refusal 5.
+#![tactic(auto)]
+
 ghost use Rattle.std.specs.Prelude.{◌+◌, ◌*◌, ◌≤◌, length};
 ghost use Rattle.names.specs.Judged.{Judged};
 
@@ -10,7 +12,7 @@ mod declared;
 mod table;
 
 // One more than the place of the soonest fault, 0 where there is none; how many variables the table has, and their cells, modulo 65536.
-#[derive(Drop)]
+#[derive(Clone, Copy)]
 pub struct Named {
     pub first: usize,
     pub count: usize,

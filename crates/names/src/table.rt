@@ -6,7 +6,7 @@ use tree::{child, put, word};
 use variables::{key_of, section_of, size_of};
 
 // How many variables the table has, and how many cells they have, modulo 65536.
-#[derive(Drop)]
+#[derive(Clone, Copy)]
 pub struct Filled {
     pub count: usize,
     pub cells: u16,

@@ -1,0 +1,14 @@
+use Prim.Native.Nat.{◌+◌, ◌*◌}
+use Rattle.names.proofs.body.+walk.Given as goal
+
+abbrev pub decreases-arms : goal.decreases-arms
+decreases-arms l = 2 * l.i + 1
+
+abbrev pub decreases-branches : goal.decreases-branches
+decreases-branches l = 2 * l.j + 2
+
+abbrev pub decreases-repeat : goal.decreases-repeat
+decreases-repeat l = 2 * l.b + 2
+
+abbrev pub decreases-statements : goal.decreases-statements
+decreases-statements l = 2 * l.i + 1
