@@ -18,14 +18,14 @@ use value::{fits, same_type};
 use variables::{declaration_of, find, type_of};
 
 // One of a, b and c of a FOR: its soonest fault, and whether it is a scan constant of the loop's type.
-#[derive(Drop)]
+#[derive(Clone, Copy)]
 pub struct Limit {
     pub first: usize,
     pub good: bool,
 }
 
 // The selector of a CASE: its soonest fault, and its type, which the labels take where there is no fault.
-#[derive(Drop)]
+#[derive(Clone, Copy)]
 pub struct Selector {
     pub first: usize,
     pub ty: Ty,
@@ -196,7 +196,7 @@ fn labels_of(pool: &[u16], s: Selector, i: usize, best: usize) -> usize
 // ---- statements
 
 // The faults of the statements at a node, `depth` FORs being around.
-#[cycle(arms_choice_repeat_selection_statements)]
+#[cycle(walk)]
 pub fn statements(
     text: &[u8],
     pool: &[u16],
@@ -233,7 +233,7 @@ pub fn statements(
 }
 
 // IF: its condition and both lists.
-#[cycle(arms_choice_repeat_selection_statements)]
+#[cycle(walk)]
 fn choice(
     text: &[u8],
     pool: &[u16],
@@ -255,7 +255,7 @@ fn choice(
 }
 
 // CASE: its selector and its arms.
-#[cycle(arms_choice_repeat_selection_statements)]
+#[cycle(walk)]
 fn selection(
     text: &[u8],
     pool: &[u16],
@@ -275,7 +275,7 @@ fn selection(
 }
 
 // FOR: its head, and its body with one FOR more around.
-#[cycle(arms_choice_repeat_selection_statements)]
+#[cycle(walk)]
 fn repeat(
     text: &[u8],
     pool: &[u16],
@@ -298,7 +298,7 @@ fn repeat(
 }
 
 // The arms of a CASE and its ELSE list.
-#[cycle(arms_choice_repeat_selection_statements)]
+#[cycle(walk)]
 fn arms(
     text: &[u8],
     pool: &[u16],

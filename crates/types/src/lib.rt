@@ -1,4 +1,6 @@
 // The type of every expression, and refusal 6: the soonest of its faults.
+#![tactic(auto)]
+
 ghost use Rattle.std.specs.Prelude.{◌≡◌, ◌+◌, ◌*◌, ◌≤◌, length};
 ghost use Rattle.faults.specs.Soonest.{soonest};
 ghost use Rattle.types.specs.Statements.{faults_at};

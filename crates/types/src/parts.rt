@@ -22,7 +22,7 @@ pub const NUMBERS: u8 = 1;
 
 pub const FAULTY: u8 = 2;
 
-#[derive(Drop)]
+#[derive(Clone, Copy)]
 pub struct Judged {
     pub state: u8,
     pub ty: Ty,
@@ -30,7 +30,7 @@ pub struct Judged {
 }
 
 // The type is settled; `first` is the soonest fault.
-#[derive(Drop)]
+#[derive(Clone, Copy)]
 pub struct Settled {
     pub first: usize,
     pub ty: Ty,
