@@ -1,5 +1,7 @@
 // Refusal 7: the soonest expression that is too high, walked over the flat tree. What is carried is one more than its place, and 0
 // where there is none.
+#![tactic(auto)]
+
 ghost use Rattle.std.specs.Prelude.{◌≡◌, List, ℕ, ◌+◌, ◌*◌, ◌<◌, ◌≤◌, length};
 ghost use Rattle.paper.specs.Heights.{first_word, too_high, subscripts, measured, test_height, label_place, arm_faults, statement_faults, height_faults};
 ghost use Rattle.faults.specs.Soonest.{soonest};
@@ -176,7 +178,7 @@ fn selector(pool: &[u16], i: usize, best: usize) -> usize
 }
 
 // The two lists of an IF.
-#[cycle(arms_branches_statements)]
+#[cycle(walk)]
 fn branches(pool: &[u16], i: usize, best: usize) -> usize
     requires { 4 * i + 4 ≤ length pool.now }
     ensures { With best result (λ t. branched t pool.now i) }
@@ -186,7 +188,7 @@ fn branches(pool: &[u16], i: usize, best: usize) -> usize
 }
 
 // A list of statements, which goes on to what stands before its last one.
-#[cycle(arms_branches_statements)]
+#[cycle(walk)]
 fn statements(pool: &[u16], i: usize, best: usize) -> usize
     requires { 4 * i + 4 ≤ length pool.now }
     ensures { With best result (λ t. listed t pool.now i) }
@@ -220,7 +222,7 @@ fn statements(pool: &[u16], i: usize, best: usize) -> usize
 }
 
 // The arms of a CASE whose selector has the height `h`, and its ELSE list.
-#[cycle(arms_branches_statements)]
+#[cycle(walk)]
 fn arms(pool: &[u16], i: usize, h: usize, best: usize) -> usize
     requires { (4 * i + 4 ≤ length pool.now) × (4 * h ≤ length pool.now) }
     ensures { With best result (λ t. statement_faults (arms_at t pool.now i) h) }
