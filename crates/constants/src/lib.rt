@@ -1,5 +1,7 @@
 // Types of sound expressions, and what can be worked out before the program runs.
 // A text, a pool, a table and what the cells hold are lent to each function; the variables are those that the table lists.
+#![tactic(auto)]
+
 ghost use Rattle.std.specs.Prelude.{◌≡◌, true, not, ◌&&◌, ◌+◌, ◌*◌, ◌-◌, ◌≤◌, ◌<◌, pos, length, get_or};
 ghost use Rattle.std.proofs.Math.Option.{some};
 ghost use Rattle.paper.specs.declared.Ty.TheVariants.{Bool as BOOL};
@@ -19,14 +21,14 @@ use value::{apply, bit_of, converted, is_true, negated, residue_of, value_of};
 use variables::{bounds_of, declaration_of, find, is_array, type_at, type_of};
 
 // A type, or none for numbers only.
-#[derive(Drop)]
+#[derive(Clone, Copy)]
 pub struct Typed {
     pub some: bool,
     pub ty: Ty,
 }
 
 // A residue and the type that it is of, or none where there is no value.
-#[derive(Drop)]
+#[derive(Clone, Copy)]
 pub struct Valued {
     pub some: bool,
     pub residue: u32,
@@ -34,14 +36,14 @@ pub struct Valued {
 }
 
 // A whole number, or none.
-#[derive(Drop)]
+#[derive(Clone, Copy)]
 pub struct Wholed {
     pub some: bool,
     pub value: i64,
 }
 
 // A cell and its variable's type, or none and DINT.
-#[derive(Drop)]
+#[derive(Clone, Copy)]
 pub struct Celled {
     pub some: bool,
     pub cell: usize,
@@ -454,7 +456,7 @@ fn leaf_value(pool: &[u16], t: Ty, i: usize) -> Valued
 }
 
 // The cell of the name or element at a node.
-#[cycle(binary_value_cell_of_unary_value_value_in_whole_in)]
+#[cycle(values)]
 pub fn cell_of(text: &[u8], pool: &[u16], table: &[u16], env: &[u32], i: usize) -> Celled
     requires { 4 * i + 4 ≤ length pool.now }
     ensures { (celled result ≡ cell_of (listed_in text.now pool.now table.now) env.now (expr_at text.now pool.now i))
@@ -476,7 +478,7 @@ pub fn cell_of(text: &[u8], pool: &[u16], table: &[u16], env: &[u32], i: usize) 
 }
 
 // The value of the expression at a node with one operand.
-#[cycle(binary_value_cell_of_unary_value_value_in_whole_in)]
+#[cycle(values)]
 fn unary_value(text: &[u8], pool: &[u16], table: &[u16], env: &[u32], t: Ty, i: usize) -> Valued
     requires { (4 * i + 4 ≤ length pool.now) × (6 < kind_of pool.now i) × (kind_of pool.now i < 11) }
     ensures { ValueIn (listed_in text.now pool.now table.now) env.now t (expr_at text.now pool.now i) result }
@@ -499,7 +501,7 @@ fn unary_value(text: &[u8], pool: &[u16], table: &[u16], env: &[u32], t: Ty, i: 
 }
 
 // The value of the expression at a node with two operands; the first one's value tells the type of both.
-#[cycle(binary_value_cell_of_unary_value_value_in_whole_in)]
+#[cycle(values)]
 fn binary_value(text: &[u8], pool: &[u16], table: &[u16], env: &[u32], t: Ty, i: usize) -> Valued
     requires { (4 * i + 4 ≤ length pool.now) × (10 < kind_of pool.now i) × (kind_of pool.now i < 25) }
     ensures { ValueIn (listed_in text.now pool.now table.now) env.now t (expr_at text.now pool.now i) result }
@@ -512,7 +514,7 @@ fn binary_value(text: &[u8], pool: &[u16], table: &[u16], env: &[u32], t: Ty, i:
 }
 
 // The value of the expression at a node, where `t` is offered.
-#[cycle(binary_value_cell_of_unary_value_value_in_whole_in)]
+#[cycle(values)]
 pub fn value_in(text: &[u8], pool: &[u16], table: &[u16], env: &[u32], t: Ty, i: usize) -> Valued
     requires { 4 * i + 4 ≤ length pool.now }
     ensures { ValueIn (listed_in text.now pool.now table.now) env.now t (expr_at text.now pool.now i) result }
@@ -538,7 +540,7 @@ pub fn value_in(text: &[u8], pool: &[u16], table: &[u16], env: &[u32], t: Ty, i:
 }
 
 // The same as a whole number: of bounds, steps and subscripts.
-#[cycle(binary_value_cell_of_unary_value_value_in_whole_in)]
+#[cycle(values)]
 pub fn whole_in(text: &[u8], pool: &[u16], table: &[u16], env: &[u32], t: Ty, i: usize) -> Wholed
     requires { 4 * i + 4 ≤ length pool.now }
     ensures { wholed result ≡ whole_value (listed_in text.now pool.now table.now) env.now t (expr_at text.now pool.now i) }
