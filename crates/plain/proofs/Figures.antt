@@ -1,5 +1,5 @@
 -- The figure of a node's list, 65535 standing for more, from those of the lists below it.
-use mathlib.Core.Path.{◌≡◌, ap, ◌∙◌}
+use mathlib.Core.Path.{◌≡◌}
 use mathlib.Core.List.{List}
 use Prim.Native.Nat.{ℕ, ◌+◌, ◌<◌, min, max}
 use native.Mathlib.Omega.{arith}

@@ -6,10 +6,9 @@ use Prim.Native.Nat.{ℕ, zero, suc, ◌+◌, ◌*◌, ◌-◌, ◌/◌, ◌%◌
 use native.Mathlib.Omega.{arith}
 use lib.ListN.{length, get_or, take}
 use lib.Seq.{get_or-append-add}
-use Rattle.paper.specs.declared.Ty.{Ty}
 use Rattle.paper.specs.declared.Ty.TheVariants.{Bool as BOOL}
 use Rattle.paper.specs.declared.Op.TheVariants.{Or}
-use Rattle.paper.specs.Plain.{Expr, number, truth, read, minus, complement, binary, conversion, Stmts, done, assign, choice}
+use Rattle.paper.specs.Plain.{number, truth, read, minus, complement, binary, conversion, Stmts, done, assign, choice}
 use Rattle.tree.specs.Nodes.{word_of, child_of, written}
 use Rattle.tree.specs.Trees.{types, operators, whole_at}
 use Rattle.tree.proofs.Puts.{written_word0, written_word1, written_word2, written_word3}

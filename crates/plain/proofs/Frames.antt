@@ -1,18 +1,17 @@
 -- A decode of ST0 takes one step at a node, and depends on the nodes up to its own only.
 use mathlib.Core.Path.{◌≡◌, refl, ap, ap₂, ◌∙◌, fun_ext}
-use mathlib.Core.Bool.{true}
 use mathlib.Core.List.{List}
-use Prim.Native.Nat.{ℕ, zero, suc, ◌-◌, ◌/◌, ◌%◌, ◌≤◌, ◌<◌}
+use Prim.Native.Nat.{ℕ, suc, ◌-◌, ◌/◌, ◌%◌, ◌<◌}
 use native.Mathlib.Omega.{arith}
 use lib.ListN.{get_or}
 use Rattle.paper.specs.declared.Ty.{Ty}
 use Rattle.paper.specs.declared.Ty.TheVariants.{Bool as BOOL}
-use Rattle.paper.specs.Plain.{Expr, number, truth, read, minus, complement, binary, conversion, Stmts, done}
+use Rattle.paper.specs.Plain.{Expr, number, read, minus, binary, conversion, Stmts}
 use Rattle.tree.specs.Nodes.{word_of, child_of, Same}
-use Rattle.tree.specs.Trees.{types, operators, whole_at}
+use Rattle.tree.specs.Trees.{types, operators}
 use Rattle.tree.proofs.Decodes.{Framed, word_same, first_same, second_same, stepped, Local, Decode, decode_node, decode_same, kid_same, All, none, ◌&◌, each, all_map}
 use Rattle.tree.proofs.Frames.{whole_same}
-use Rattle.plain.specs.Flat.{type_at, cell_at, ExprForm, nil, nil_form, number_form, binary_form, expr_forms, expr_from, expr_at, FrontForm, skip, front_forms, front_from, front_at}
+use Rattle.plain.specs.Flat.{type_at, ExprForm, nil, nil_form, number_form, binary_form, expr_forms, expr_from, expr_at, FrontForm, skip, front_forms, front_from, front_at}
 
 -- ---- expressions
 

@@ -8,8 +8,8 @@ use native.Mathlib.Omega.{arith}
 use lib.Dec.{eqb, ltb}
 use lib.ListN.{length, get_or, set, length-set}
 use lib.Seq.{get_or-set_same, get_or-set_other}
-use borrow.Author.Tests.{eq-eqb, ne_eqb, eqb-true, eqb-false, lt-ltb, le-ltb}
-use Rattle.paper.specs.Plain.{Stmts, done, assign, choice, assigns, count, cells_within, ◌⨾◌}
+use borrow.Author.Tests.{eqb-true, eqb-false}
+use Rattle.paper.specs.Plain.{Stmts, done, assigns, count, cells_within}
 use Rattle.tree.specs.Nodes.{word_of, child_of}
 use Rattle.plain.specs.Flat.{list_at}
 use Rattle.plain.specs.Marks.{is_marked, Marks}

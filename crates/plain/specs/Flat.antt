@@ -1,5 +1,5 @@
 -- ST0 in a flat pool, four words a node as in the flat tree: what a pool holds, for any content. A child that is no earlier node is nil.
-use Rattle.std.specs.Prelude.{◌≡◌, List, [], ◌∷◌, ℕ, zero, suc, ◌-◌, ◌/◌, ◌%◌, get_or, true, false}
+use Rattle.std.specs.Prelude.{List, [], ◌∷◌, ℕ, zero, suc, ◌-◌, ◌/◌, ◌%◌, get_or, true, false}
 use Rattle.paper.specs.declared.Ty.{Ty}
 use Rattle.paper.specs.declared.Ty.TheVariants.{Bool as BOOL}
 use Rattle.paper.specs.declared.Op.{Op}

@@ -1,4 +1,6 @@
 // ST0 in a flat pool: the figure of a list, and the cells that two lists assign.
+#![tactic(auto)]
+
 ghost use Rattle.std.specs.Prelude.{◌≡◌, ◌+◌, ◌*◌, ◌≤◌, min, length};
 ghost use Rattle.paper.specs.Plain.{figure, count, cells_within};
 ghost use Rattle.plain.specs.Flat.{list_at};

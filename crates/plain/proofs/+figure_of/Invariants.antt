@@ -1,0 +1,4 @@
+use Rattle.plain.proofs.+figure_of.Given as goal
+
+abbrev pub decreases-figure_of : goal.decreases-figure_of
+decreases-figure_of l = l.i
