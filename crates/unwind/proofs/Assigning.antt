@@ -1,8 +1,8 @@
 -- An assignment walked, and what it puts in front of a list.
-use mathlib.Core.Path.{◌≡◌, refl, sym, ap, ap₂, subst, ◌∙◌}
+use mathlib.Core.Path.{◌≡◌, refl, sym, ap, ap₂, ◌∙◌}
 use mathlib.Core.Option.{none, some}
 use mathlib.Core.List.{List}
-use Prim.Native.Nat.{ℕ, ◌+◌, ◌*◌, ◌≤◌, ◌<◌}
+use Prim.Native.Nat.{ℕ, ◌*◌, ◌≤◌}
 use native.Mathlib.Omega.{arith}
 use lib.ListN.{length}
 use Rattle.paper.specs.declared.Cell.{Cell}
@@ -17,14 +17,14 @@ use Rattle.paper.specs.Typing.{type_in}
 use Rattle.paper.specs.Plain.{Expr, State, assign, done, parts, ◌⨾◌}
 use Rattle.paper.specs.Meaning.{cell_of}
 use Rattle.paper.specs.Unwinding.{Unwound, unwound, heavier, no_selector, bracket_of, cell_in, plain_of, unwind}
-use Rattle.tree.specs.Nodes.{child_of, Same}
+use Rattle.tree.specs.Nodes.{child_of}
 use Rattle.tree.specs.Trees.{expr_at}
 use Rattle.tree.proofs.Decodes.{same_less, same_trans}
 use Rattle.variables.specs.Table.{listed_in}
 use Rattle.unwind.specs.declared.parts.Part.{Part}
 use Rattle.unwind.specs.declared.lists.Walk.{Walk}
 use Rattle.unwind.specs.Parts.{Inside, PlainDid}
-use Rattle.unwind.specs.Walks.{said, Goes, WalkDid, assigning, AssignedDid, assign_of, assign_at, behind, Front}
+use Rattle.unwind.specs.Walks.{said, WalkDid, assigning, AssignedDid, assign_of, assign_at, behind, Front}
 use Rattle.unwind.proofs.Insides.{cell_inside, cell_given, cell_refused}
 use Rattle.unwind.proofs.Walking.{said_bad}
 

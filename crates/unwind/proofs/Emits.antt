@@ -1,13 +1,13 @@
 -- Nodes of an expression just written, one a part.
 use mathlib.Core.Path.{◌≡◌, refl, sym, ap, ap₂, subst, ◌∙◌}
 use mathlib.Core.List.{List}
-use Prim.Native.Nat.{ℕ, zero, suc, ◌+◌, ◌*◌, ◌≤◌, ◌<◌, min}
+use Prim.Native.Nat.{ℕ, suc, ◌+◌, ◌≤◌, ◌<◌, min}
 use native.Mathlib.Omega.{arith}
 use lib.ListN.{length, get_or}
 use Rattle.paper.specs.declared.Ty.{Ty}
 use Rattle.paper.specs.declared.Ty.TheVariants.{Bool as BOOL, Int as INT, Uint as UINT, Dint as DINT, Udint as UDINT}
 use Rattle.paper.proofs.Whys.{code_pos}
-use Rattle.paper.specs.Refusals.{Answer, refused, given, number_of, ◌>>=◌}
+use Rattle.paper.specs.Refusals.{Answer, refused, given, ◌>>=◌}
 use Rattle.paper.specs.Types.{tag}
 use Rattle.paper.specs.Names.{Variable}
 use Rattle.paper.specs.Plain.{Expr, parts}
@@ -18,7 +18,7 @@ use Rattle.tree.proofs.Puts.{written_length, written_same}
 use Rattle.plain.specs.Flat.{expr_at}
 use Rattle.plain.proofs.Frames.{expr_same}
 use Rattle.unwind.specs.declared.parts.Part.{Part}
-use Rattle.unwind.specs.Parts.{Holds, Emitted, Inside, Parted, PartDid, Wrapped}
+use Rattle.unwind.specs.Parts.{Holds, Emitted, Parted, PartDid, Wrapped}
 
 -- a type by its number
 pub type_tag : (t : Ty) → get_or types (tag t) BOOL ≡ t

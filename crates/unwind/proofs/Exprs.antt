@@ -1,8 +1,8 @@
 -- The plain form of the expression of a node, from those of its children.
-use mathlib.Core.Path.{◌≡◌, refl, sym, ap, subst, ◌∙◌}
+use mathlib.Core.Path.{◌≡◌, refl, sym, ap, ◌∙◌}
 use mathlib.Core.Bool.{Bool, true, false}
 use mathlib.Core.List.{List}
-use Prim.Native.Nat.{ℕ, zero, suc, ◌+◌, ◌-◌, ◌/◌, ◌%◌, ◌≤◌, ◌<◌}
+use Prim.Native.Nat.{ℕ, zero, suc, ◌-◌, ◌/◌, ◌%◌, ◌≤◌, ◌<◌}
 use native.Mathlib.Omega.{arith}
 use borrow.Author.Tests.{ltb-true, ltb-false, ne_eqb}
 use lib.Dec.{ltb}
@@ -10,14 +10,14 @@ use lib.ListN.{get_or}
 use Rattle.paper.specs.declared.Ty.{Ty}
 use Rattle.paper.specs.declared.Ty.TheVariants.{Bool as BOOL, Dint as DINT}
 use Rattle.paper.specs.declared.Op.TheVariants.{Or}
-use Rattle.paper.specs.Refusals.{Answer, refused, given, ◌>>=◌}
+use Rattle.paper.specs.Refusals.{Answer, given, ◌>>=◌}
 use Rattle.paper.specs.Source as S
 use Rattle.paper.specs.Names.{Variable}
 use Rattle.paper.specs.Heights.{first_word}
 use Rattle.paper.specs.Typing.{type_in, operand_type}
 use Rattle.paper.specs.Plain.{Expr, State, number, truth, read, minus, complement, binary, conversion}
 use Rattle.paper.specs.Unwinding.{bracket_of, cell_in, plain_of}
-use Rattle.tree.specs.Nodes.{word_of, kind_of, child_of}
+use Rattle.tree.specs.Nodes.{word_of, kind_of}
 use Rattle.tree.specs.Trees.{types, operators, place_at, whole_at, number_form, expr_forms, expr_at}
 use Rattle.tree.proofs.Frames.{nil_form}
 use Rattle.unwind.specs.Parts.{offered_at}

@@ -1,5 +1,5 @@
 -- The cell of a name or an element, where there is one, is among the cells of its variable.
-use mathlib.Core.Path.{◌≡◌, refl, sym, ap, subst, ◌∙◌}
+use mathlib.Core.Path.{◌≡◌, refl, sym, ap}
 use mathlib.Core.Bool.{Bool, true, false, cond, ◌&&◌, false≢true}
 use mathlib.Core.Option.{Option, none, some, some_inj}
 use mathlib.Core.List.{List}
@@ -12,11 +12,11 @@ use lib.Signed.{le_z}
 use Rattle.paper.specs.declared.Cell.{Cell}
 use Rattle.paper.specs.declared.Ty.TheVariants.{Dint as DINT}
 use Rattle.paper.specs.declared.Why.TheVariants.{BadWalk}
-use Rattle.paper.specs.Refusals.{Answer, refused, given, ◌>>=◌}
+use Rattle.paper.specs.Refusals.{refused, given}
 use Rattle.paper.specs.Source as S
 use Rattle.paper.specs.Source.{Name, Bounds, single, array}
 use Rattle.paper.specs.Names.{Variable, size_of, find}
-use Rattle.paper.specs.Plain.{Expr, State, read}
+use Rattle.paper.specs.Plain.{State}
 use Rattle.paper.specs.Meaning.{cell_of_variable, cell_of_element, variable_cell, element_cell, whole_value, cell_of, ◌>>=◌ as ◌then◌}
 use Rattle.paper.specs.Unwinding.{bracket_of, cell_in}
 use Rattle.unwind.specs.Parts.{Inside}

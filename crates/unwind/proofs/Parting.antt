@@ -3,15 +3,14 @@ use mathlib.Core.Path.{◌≡◌, refl, sym, ap, ap₂, subst, ◌∙◌}
 use mathlib.Core.Bool.{Bool, true, false, cond}
 use mathlib.Core.Option.{none, some}
 use mathlib.Core.List.{List}
-use Prim.Native.Nat.{ℕ, zero, suc, ◌+◌, ◌*◌, ◌-◌, ◌/◌, ◌%◌, ◌≤◌, ◌<◌}
+use Prim.Native.Nat.{ℕ, suc, ◌+◌, ◌-◌, ◌/◌, ◌%◌, ◌≤◌, ◌<◌}
 use native.Mathlib.Omega.{arith}
 use borrow.Author.Tests.{eqb-true, eqb-false, ne_eqb}
 use lib.Dec.{eqb}
 use lib.ListN.{length, get_or}
 use Rattle.paper.specs.declared.Ty.{Ty}
-use Rattle.paper.specs.declared.Ty.TheVariants.{Bool as BOOL, Dint as DINT}
+use Rattle.paper.specs.declared.Ty.TheVariants.{Bool as BOOL}
 use Rattle.paper.specs.declared.Op.TheVariants.{Or}
-use Rattle.paper.specs.declared.Cell.{Cell}
 use Rattle.paper.specs.declared.Why.TheVariants.{BadWalk}
 use Rattle.paper.specs.Refusals.{Answer, refused, given, ◌>>=◌}
 use Rattle.paper.specs.Types.{tag}
@@ -19,14 +18,14 @@ use Rattle.paper.specs.Names.{Variable}
 use Rattle.paper.specs.Typing.{type_in, operand_type}
 use Rattle.paper.specs.Plain.{Expr, State, parts, number, read, minus, complement, binary, conversion}
 use Rattle.paper.specs.Meaning.{cell_of}
-use Rattle.paper.specs.Unwinding.{bracket_of, cell_in, plain_of}
+use Rattle.paper.specs.Unwinding.{bracket_of, plain_of}
 use Rattle.tree.specs.Nodes.{word_of, kind_of, child_of, written}
 use Rattle.tree.specs.Trees.{types, operators, whole_at, expr_at}
 use Rattle.variables.specs.Table.{listed_in}
 use Rattle.plain.specs.Flat as F
 use Rattle.plain.proofs.Forms.{put_copied, put_minus, put_complement, put_conversion, put_binary}
 use Rattle.unwind.specs.declared.parts.Part.{Part}
-use Rattle.unwind.specs.Parts.{Holds, Inside, Parted, PartDid, PlainDid, ReadDid, NoCell, Wrapped, offered_at}
+use Rattle.unwind.specs.Parts.{Holds, Inside, PartDid, PlainDid, ReadDid, NoCell, Wrapped, offered_at}
 use Rattle.constants.specs.Answers.{Offers, result_at}
 use Rattle.constants.proofs.Nodes.{kind_some, first, second}
 use Rattle.constants.proofs.Types.{two_in, offered_as, offered_in}

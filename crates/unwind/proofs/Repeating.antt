@@ -17,7 +17,7 @@ use Rattle.paper.specs.Source as S
 use Rattle.paper.specs.Source.{Name}
 use Rattle.paper.specs.Names.{Variable, find, cells_of}
 use Rattle.paper.specs.Typing.{is_zero}
-use Rattle.paper.specs.Plain.{State, done, store}
+use Rattle.paper.specs.Plain.{State, store}
 use Rattle.paper.specs.Meaning as M
 use Rattle.paper.specs.Meaning.{passed, enough, cell_of_variable, whole_value}
 use Rattle.paper.specs.Unwinding.{Unwound, found, no_selector, turns, pass_of, looped, unwind}

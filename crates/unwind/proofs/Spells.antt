@@ -2,20 +2,20 @@
 use mathlib.Core.Path.{◌≡◌, refl, sym, ap, ap₂, subst, ◌∙◌}
 use mathlib.Core.Bool.{Bool, true, false, cond}
 use mathlib.Core.List.{List, [], ◌∷◌, ◌++◌}
-use Prim.Native.Nat.{ℕ, zero, suc, ◌+◌, ◌*◌, ◌-◌, ◌≤◌, ◌<◌}
+use Prim.Native.Nat.{ℕ, ◌+◌, ◌*◌, ◌-◌, ◌≤◌, ◌<◌}
 use native.Mathlib.Omega.{arith}
 use borrow.Author.Tests.{eq-eqb, ne_eqb}
 use lib.Dec.{eqb}
-use lib.IntN.{ℤ, pos, neg_ℤ}
-use lib.ListN.{length, get_or}
+use lib.IntN.{pos, neg_ℤ}
+use lib.ListN.{get_or}
 use Rattle.paper.specs.declared.Ty.{Ty}
 use Rattle.paper.specs.declared.Ty.TheVariants.{Bool as BOOL}
-use Rattle.paper.specs.declared.Op.TheVariants.{Le, Ge, Eq, And, Or}
+use Rattle.paper.specs.declared.Op.TheVariants.{Le, And, Or}
 use Rattle.paper.specs.Source.{Label, one, range}
 use Rattle.paper.specs.Types.{tag}
 use Rattle.paper.specs.Plain.{Expr, number, binary}
 use Rattle.paper.specs.Unwinding.{test_of, tests_of}
-use Rattle.tree.specs.Nodes.{word_of, child_of, written, Same}
+use Rattle.tree.specs.Nodes.{word_of, child_of, written}
 use Rattle.tree.specs.Trees.{types, operators, place_at, whole_at, label_at, labels_at}
 use Rattle.tree.proofs.Decodes.{same_less, same_trans}
 use Rattle.tree.proofs.Forms.{whole}

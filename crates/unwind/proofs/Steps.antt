@@ -7,7 +7,7 @@ use lib.ListN.{length}
 use Rattle.paper.specs.Refusals.{Answer, given, ◌>>=◌}
 use Rattle.paper.specs.Source as S
 use Rattle.paper.specs.Names.{Variable, cells_of}
-use Rattle.paper.specs.Plain.{State, Stmts, done, ◌⨾◌}
+use Rattle.paper.specs.Plain.{State, done, ◌⨾◌}
 use Rattle.paper.specs.Unwinding.{Unwound, unwound}
 use Rattle.tree.specs.Nodes.{kind_of, child_of, Same}
 use Rattle.tree.specs.Trees as T

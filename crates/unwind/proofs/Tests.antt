@@ -1,15 +1,15 @@
 -- The tests of a CASE arm: one more label behind those so far, and how many parts they have.
-use mathlib.Core.Path.{◌≡◌, refl, sym, ap, ap₂, ◌∙◌}
+use mathlib.Core.Path.{◌≡◌, refl, sym, ap, ◌∙◌}
 use mathlib.Core.Bool.{Bool, true, false, cond}
 use mathlib.Core.List.{List, [], ◌∷◌, ◌++◌}
-use Prim.Native.Nat.{ℕ, zero, suc, ◌+◌, ◌*◌, ◌≤◌, ◌<◌, min}
+use Prim.Native.Nat.{ℕ, suc, ◌+◌, ◌*◌, ◌≤◌, ◌<◌, min}
 use native.Mathlib.Omega.{arith}
 use borrow.Author.Tests.{eq-eqb, ne_eqb}
 use lib.Dec.{eqb}
 use Rattle.paper.specs.declared.Ty.TheVariants.{Bool as BOOL}
 use Rattle.paper.specs.declared.Op.TheVariants.{Or}
 use Rattle.paper.specs.Source.{Label, one, range}
-use Rattle.paper.specs.Plain.{Expr, truth, binary, parts}
+use Rattle.paper.specs.Plain.{Expr, binary, parts}
 use Rattle.paper.specs.Unwinding.{Selector, test_of, or_tests, tests_of}
 use Rattle.tree.specs.Nodes.{word_of, child_of}
 use Rattle.tree.specs.Trees.{label_at, labels_at, place_at, whole_at}

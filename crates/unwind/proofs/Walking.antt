@@ -1,30 +1,27 @@
 -- Statements just written: one list behind another, an assignment, an IF.
-use mathlib.Core.Path.{◌≡◌, refl, sym, ap, ap₂, subst, ◌∙◌}
+use mathlib.Core.Path.{◌≡◌, refl, sym, ap, ap₂, ◌∙◌}
 use mathlib.Core.Bool.{Bool, true, false, cond, ◌||◌}
 use mathlib.Core.List.{List}
-use Prim.Native.Nat.{ℕ, zero, suc, ◌+◌, ◌*◌, ◌≤◌, ◌<◌, min}
+use Prim.Native.Nat.{ℕ, zero, suc, ◌+◌, ◌*◌, ◌≤◌, ◌<◌}
 use native.Mathlib.Omega.{arith}
 use borrow.Author.Tests.{ne_eqb, le-leb, lt-leb}
-use lib.Dec.{eqb, leb}
 use lib.ListN.{length}
 use lib.IntN.{ℤ, pos}
 use lib.Signed.{lt_z}
 use Rattle.paper.specs.Meaning.{passed}
 use Rattle.paper.specs.declared.Cell.{Cell}
 use Rattle.paper.specs.declared.Why.{Why}
-use Rattle.paper.specs.declared.Why.TheVariants.{TooLong, NoWord, BadShape, TooDeep, BadName, BadType, TooHigh, BadWalk, TooHeavy, NoRoom, BadTable, BadValue}
+use Rattle.paper.specs.declared.Why.TheVariants.{TooHeavy}
 use Rattle.paper.specs.Refusals.{why_of, Answer, refused, given, number_of, ◌>>=◌}
 use Rattle.paper.specs.Plain.{Expr, Stmts, number, truth, read, minus, complement, binary, conversion, done, assign, choice, parts, assigns, count, cells_within, ◌⨾◌}
 use Rattle.paper.specs.Unwinding.{Unwound, unwound, heavier}
-use Rattle.tree.specs.Nodes.{Same, written}
-use Rattle.plain.specs.Flat.{expr_at, front_at, list_at}
-use Rattle.plain.proofs.Frames.{front_nil}
+use Rattle.plain.specs.Flat.{expr_at, list_at}
 use Rattle.plain.proofs.Forms.{put_assign, put_choice, put_list}
 use Rattle.plain.proofs.Lists.{join_done, front_list, list_nil}
 use Rattle.unwind.specs.declared.parts.Part.{Part}
 use Rattle.unwind.specs.declared.lists.Walk.{Walk}
 use Rattle.unwind.specs.Parts.{Holds, Emitted, Parted}
-use Rattle.unwind.specs.Walks.{said, Goes, Linked, assigning, AssignedDid, joining, JoinedDid}
+use Rattle.unwind.specs.Walks.{said, Goes, Linked, assigning, AssignedDid, JoinedDid}
 use Rattle.paper.proofs.Whys.{code_pos, why_number}
 
 -- ---- answers

@@ -9,7 +9,7 @@ use Rattle.paper.specs.Source as S
 use Rattle.paper.specs.Source.{Name}
 use Rattle.paper.specs.Names.{Variable, cells_of, find}
 use Rattle.paper.specs.Typing.{is_zero}
-use Rattle.paper.specs.Plain.{State, number, assign, done, store}
+use Rattle.paper.specs.Plain.{State, store}
 use Rattle.paper.specs.Meaning.{passed, cell_of_variable, whole_value, ◌>>=◌}
 use Rattle.paper.specs.Unwinding as U
 use Rattle.paper.specs.Unwinding.{Unwound, no_selector, pass_of, unwind}

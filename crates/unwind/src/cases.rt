@@ -16,7 +16,7 @@ use tree::{child, word};
 use value::tag_of;
 
 // The selector of a CASE: its place, its node in the tree, the node of its plain form and its type.
-#[derive(Drop)]
+#[derive(Clone, Copy)]
 pub struct Selector {
     pub place: usize,
     pub node: usize,

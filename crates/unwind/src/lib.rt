@@ -1,4 +1,6 @@
 // From the judged tree to ST0, by 8 and 9 in one walk.
+#![tactic(auto)]
+
 pub mod cases;
 pub mod lists;
 pub mod loops;

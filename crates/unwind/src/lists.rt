@@ -13,7 +13,7 @@ use plain::cells_within;
 use tree::{child, kind, word};
 
 // Code 0, the last node, the list and the weight so far; or 8 or 9 at a place.
-#[derive(Drop)]
+#[derive(Clone, Copy)]
 pub struct Walk {
     pub code: u8,
     pub at: usize,

@@ -14,7 +14,7 @@ use tree::{child, word};
 use value::tag_of;
 
 // The head of a FOR: its place, its variable's cell and type, and the values; `some` is down where 8 stands.
-#[derive(Drop)]
+#[derive(Clone, Copy)]
 pub struct Head {
     pub some: bool,
     pub place: usize,

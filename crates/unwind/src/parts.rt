@@ -13,7 +13,7 @@ use variables::type_at;
 
 // Code 0, the last node, which is the expression's own, its number of parts, 3001 standing for more than 3000, and its type;
 // or 8 at a place.
-#[derive(Drop)]
+#[derive(Clone, Copy)]
 pub struct Part {
     pub code: u8,
     pub at: usize,
@@ -149,7 +149,7 @@ fn wrapped(out: &mut [u16], y: Part, k: u16, a: u16, b: u16, c: u16, parts: usiz
 }
 
 // The expression at a node, where `t` is offered, its subscripts looked at from the left.
-#[cycle(binary_of_plain_of_unary_of)]
+#[cycle(operands)]
 pub fn plain_of(
     text: &[u8],
     pool: &[u16],
@@ -180,7 +180,7 @@ pub fn plain_of(
 }
 
 // With one operand.
-#[cycle(binary_of_plain_of_unary_of)]
+#[cycle(operands)]
 fn unary_of(
     text: &[u8],
     pool: &[u16],
@@ -216,7 +216,7 @@ fn unary_of(
 }
 
 // With two.
-#[cycle(binary_of_plain_of_unary_of)]
+#[cycle(operands)]
 fn binary_of(
     text: &[u8],
     pool: &[u16],

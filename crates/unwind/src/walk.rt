@@ -14,7 +14,7 @@ use tree::{child, kind, word};
 use value::residue_of;
 
 // The statements at a node.
-#[cycle(arm_arms_both_choice_repeat_select_turns_unwind)]
+#[cycle(walk)]
 pub fn unwind(
     text: &[u8],
     pool: &[u16],
@@ -51,7 +51,7 @@ pub fn unwind(
 }
 
 // A list and one statement more.
-#[cycle(arm_arms_both_choice_repeat_select_turns_unwind)]
+#[cycle(walk)]
 fn both(
     text: &[u8],
     pool: &[u16],
@@ -79,7 +79,7 @@ fn both(
 }
 
 // IF: the condition, the two lists, and the cells that they assign.
-#[cycle(arm_arms_both_choice_repeat_select_turns_unwind)]
+#[cycle(walk)]
 fn choice(
     text: &[u8],
     pool: &[u16],
@@ -133,7 +133,7 @@ fn choice(
 }
 
 // CASE: its selector is looked at once, and stands in each test.
-#[cycle(arm_arms_both_choice_repeat_select_turns_unwind)]
+#[cycle(walk)]
 fn select(
     text: &[u8],
     pool: &[u16],
@@ -173,7 +173,7 @@ fn select(
 }
 
 // The arms of a CASE and its ELSE list.
-#[cycle(arm_arms_both_choice_repeat_select_turns_unwind)]
+#[cycle(walk)]
 fn arms(
     text: &[u8],
     pool: &[u16],
@@ -211,7 +211,7 @@ fn arms(
 }
 
 // An arm, its list and the arms behind it, as an IF.
-#[cycle(arm_arms_both_choice_repeat_select_turns_unwind)]
+#[cycle(walk)]
 fn arm(
     text: &[u8],
     pool: &[u16],
@@ -245,7 +245,7 @@ fn arm(
 }
 
 // FOR at a node.
-#[cycle(arm_arms_both_choice_repeat_select_turns_unwind)]
+#[cycle(walk)]
 fn repeat(
     text: &[u8],
     pool: &[u16],
@@ -277,7 +277,7 @@ fn repeat(
 }
 
 // The passes from `v` on; `before` are those so far.
-#[cycle(arm_arms_both_choice_repeat_select_turns_unwind)]
+#[cycle(walk)]
 fn turns(
     text: &[u8],
     pool: &[u16],
