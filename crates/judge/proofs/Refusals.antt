@@ -1,19 +1,16 @@
 -- Unwinding refuses by 8 or 9 only.
 use mathlib.Core.Path.{◌≡◌, refl}
 use mathlib.Core.Logic.{◌⊎◌, inl, inr}
-use mathlib.Core.Bool.{Bool, true, false, cond, ◌&&◌}
+use mathlib.Core.Bool.{Bool, true, false, cond}
 use mathlib.Core.Option.{Option, none, some}
-use mathlib.Core.List.{List, [], ◌∷◌}
-use Prim.Native.Nat.{ℕ, zero, suc, ◌+◌, ◌-◌, ◌≤◌, ◌<◌}
-use native.Mathlib.Omega.{arith}
-use borrow.Author.Tests.{eqb-true}
-use lib.Dec.{eqb, leb}
+use mathlib.Core.List.{List}
+use Prim.Native.Nat.{ℕ, zero, suc, ◌+◌}
+use lib.Dec.{leb}
 use lib.IntN.{ℤ, ◌+ℤ◌}
-use lib.ListN.{length, get_or}
+use lib.ListN.{length}
 use Rattle.paper.specs.declared.Ty.{Ty}
 use Rattle.paper.specs.declared.Ty.TheVariants.{Dint as DINT}
 use Rattle.paper.specs.declared.Cell.{Cell}
-use Rattle.paper.specs.declared.Why.{Why}
 use Rattle.paper.specs.declared.Why.TheVariants.{BadWalk, TooHeavy}
 use Rattle.paper.specs.Refusals.{Answer, refused, given, number_of, ◌>>=◌}
 use Rattle.paper.specs.Types.{encode}

@@ -1,4 +1,6 @@
 // The order of refusals: a text judged by 1 to 9, and its program left in lent buffers.
+#![tactic(auto)]
+
 mod rules;
 
 ghost use Rattle.std.specs.Prelude.{◌≡◌};
@@ -9,7 +11,7 @@ ghost use Rattle.judge.specs.Rules.{TextFits, RuledAs, sound};
 use unwind::unwind_program;
 
 // Number 0 and the program: its node, the numbers of variables and cells, the list and the weight of its ST0; or a refusal's number and place.
-#[derive(Drop)]
+#[derive(Clone, Copy)]
 pub struct Judged {
     pub number: u8,
     pub place: usize,

@@ -4,7 +4,7 @@ ghost use Rattle.tree.specs.Trees.{program_at};
 ghost use Rattle.judge.specs.Rules.{Fits, IsRefused, RuledAs, ruled};
 
 // A refusal's number and place; or 0 and 0, and the program that is sound so far: its node, the numbers of its variables and cells.
-#[derive(Drop)]
+#[derive(Clone, Copy)]
 pub struct Ruled {
     pub number: u8,
     pub place: usize,
