@@ -1,25 +1,25 @@
 -- Expressions and lists, by the kinds of their nodes.
-use mathlib.Core.Path.{◌≡◌, refl, sym, ap, ap₂, ◌∙◌}
-use mathlib.Core.Bool.{Bool, true, false, cond, ◌&&◌}
+use mathlib.Core.Path.{◌≡◌, refl, sym, ap, ◌∙◌}
+use mathlib.Core.Bool.{Bool, true, false, ◌&&◌}
 use mathlib.Core.List.{List, [], ◌∷◌, ◌++◌, append_assoc}
-use Prim.Native.Nat.{ℕ, zero, suc, ◌+◌, ◌-◌, ◌/◌, ◌%◌, ◌≤◌, ◌<◌}
+use Prim.Native.Nat.{ℕ, zero, suc, ◌+◌, ◌-◌, ◌≤◌, ◌<◌}
 use native.Mathlib.Omega.{arith}
 use borrow.Author.Tests.{ne_eqb, ltb-true, ltb-false}
 use lib.Dec.{eqb, ltb}
-use lib.ListN.{length, get_or, take, drop, get_or-eq_default}
+use lib.ListN.{get_or, take, get_or-eq_default}
 use lib.Seq.{get_or-append-add}
 use Rattle.paper.specs.declared.Ty.{Ty}
 use Rattle.paper.specs.declared.Op.TheVariants.{Or}
-use Rattle.paper.specs.Words.{bytes, type_name, conversion_name}
+use Rattle.paper.specs.Words.{type_name, conversion_name}
 use Rattle.paper.specs.Names.{Variable}
-use Rattle.paper.specs.Plain.{Expr, number, truth, read, minus, complement, binary, conversion, Stmts, done, assign, choice, ◌⨾◌}
+use Rattle.paper.specs.Plain.{Expr, Stmts, done, assign, choice, ◌⨾◌}
 use Rattle.paper.specs.Printing as P
 use Rattle.tree.specs.Nodes.{word_of, kind_of, child_of}
 use Rattle.tree.specs.Trees.{operators, whole_at}
 use Rattle.plain.specs.Flat.{ExprForm, nil_form, expr_forms, expr_at, list_at}
 use Rattle.plain.proofs.Exprs as Exprs
 use Rattle.plain.proofs.Lists.{list_nil, list_assign, list_choice, list_both, list_other}
-use Rattle.print.specs.Parts.{operator_of, converting, opening, closing, is_done, if_empty, if_else}
+use Rattle.print.specs.Parts.{operator_of, opening, closing, is_done, if_empty, if_else}
 
 -- ---- expressions
 

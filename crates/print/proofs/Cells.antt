@@ -5,12 +5,12 @@ use mathlib.Core.List.{List, [], ◌∷◌, ◌++◌}
 use Prim.Native.Nat.{ℕ, zero, suc, ◌+◌, ◌-◌, ◌/◌, ◌≤◌, ◌<◌}
 use native.Mathlib.Numerals.{add-one}
 use native.Mathlib.Omega.{arith}
-use borrow.Author.Tests.{eqb-true, eqb-false, ltb-true, ltb-false, lt-ltb, le-ltb, leb-true, le-leb, lt-leb}
+use borrow.Author.Tests.{eqb-true, eqb-false, ltb-true, ltb-false, lt-ltb, le-ltb, leb-true, le-leb}
 use lib.Dec.{eqb, ltb, leb}
-use lib.ListN.{length, get_or, take, drop, length-append, get_or-append}
+use lib.ListN.{length, get_or, drop, length-append, get_or-append}
 use lib.Seq.{drop-cons, drop-length, get_or_at}
 use Rattle.paper.specs.Source.{Bounds, single, array}
-use Rattle.paper.specs.Names.{Variable, size_of, is_array}
+use Rattle.paper.specs.Names.{Variable, is_array}
 use Rattle.paper.specs.Printing.{put, natural, cell, cell_of_variable}
 use Rattle.tree.specs.Nodes.{word_of, kind_of, child_of}
 use Rattle.tree.specs.Trees.{wide, place_at}

@@ -5,7 +5,7 @@ use Prim.Native.Nat.{ℕ, suc, ◌+◌, ◌≤◌, ◌<◌, min}
 use native.Mathlib.Nat.{add-zero}
 use native.Mathlib.Numerals.{add-one}
 use native.Mathlib.Omega.{arith}
-use lib.ListN.{length, take, drop, get_or, set, length-append, length-set}
+use lib.ListN.{length, take, get_or, set, length-append}
 use lib.Seq.{sets, sets-eq, length-sets, take-suc}
 use Rattle.print.specs.Printed.{limit, Printed}
 

@@ -8,7 +8,7 @@ use native.Mathlib.Omega.{arith}
 use Prim.Native.String.{String}
 use borrow.Author.Tests.{eq-eqb, ne_eqb}
 use lib.Dec.{eqb}
-use lib.ListN.{length, get_or, length-append}
+use lib.ListN.{length, length-append}
 use Rattle.paper.specs.declared.Ty.{Ty}
 use Rattle.paper.specs.declared.Ty.TheVariants.{Bool as BOOL, Int as INT, Uint as UINT, Dint as DINT, Udint as UDINT}
 use Rattle.paper.specs.declared.Kind.{Kind}
@@ -222,7 +222,9 @@ pub sections_headed : (ds : List Declared) (k : List ℕ) → sections ds k
     ≡ headed (bytes "VAR_INPUT\n") (of_kind Input ds) (headed (bytes "VAR_OUTPUT\n") (of_kind Output ds) (headed (bytes "VAR\n") (of_kind Other ds) k))
 unfolding sections bytes
 sections_headed ds k =
-    section_headed "VAR_INPUT" _ (of_kind Input ds) _ (λ k. refl)
+    let other = section "VAR" (of_kind Other ds) k in
+    let outputs = section "VAR_OUTPUT" (of_kind Output ds) other in
+    section_headed "VAR_INPUT" (bytes "VAR_INPUT\n") (of_kind Input ds) outputs (λ k. refl)
     ∙ ap (headed (bytes "VAR_INPUT\n") (of_kind Input ds))
-    (section_headed "VAR_OUTPUT" _ (of_kind Output ds) _ (λ k. refl)
-    ∙ ap (headed (bytes "VAR_OUTPUT\n") (of_kind Output ds)) (section_headed "VAR" _ (of_kind Other ds) k (λ k. refl)))
+    (section_headed "VAR_OUTPUT" (bytes "VAR_OUTPUT\n") (of_kind Output ds) other (λ k. refl)
+    ∙ ap (headed (bytes "VAR_OUTPUT\n") (of_kind Output ds)) (section_headed "VAR" (bytes "VAR\n") (of_kind Other ds) k (λ k. refl)))

@@ -1,5 +1,5 @@
 -- What printing leaves in a lent buffer. A place is where the next byte goes; bytes beyond the buffer are counted and not written.
-use Rattle.std.specs.Prelude.{◌≡◌, List, [], ◌∷◌, ◌++◌, ℕ, suc, ◌+◌, ◌^◌, ◌≤◌, ◌<◌, min, length, take, drop}
+use Rattle.std.specs.Prelude.{◌≡◌, List, [], ◌++◌, ℕ, suc, ◌+◌, ◌^◌, ◌≤◌, ◌<◌, min, length, take, drop}
 use Rattle.paper.specs.Printing as P
 
 -- where a place stops: no buffer is longer

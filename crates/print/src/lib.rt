@@ -1,4 +1,6 @@
 // ST0 as text, byte for byte as document 01 says. A place beyond the buffer is counted and not written.
+#![tactic(auto)]
+
 pub mod body;
 pub mod bytes;
 pub mod declared;

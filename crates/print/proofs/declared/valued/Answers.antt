@@ -1,0 +1,9 @@
+-- `print::declared::valued` meets its contract.
+use Rattle.paper.specs.Words.{bytes}
+use Rattle.print.proofs.Laws.{◌then◌}
+use Rattle.print.proofs.declared.valued.Goals as goal
+
+pub returns : goal.returns
+unfolding bytes
+returns c =
+    c.type_name-a.ensures then c.put-b.ensures then c.initial-c.ensures then c.put.ensures
