@@ -1,4 +1,6 @@
 // A scan by the statements of ST0 in the flat pool: the value of an expression, and a list carried out on the cells.
+#![tactic(auto)]
+
 ghost use Rattle.std.specs.Prelude.{◌≡◌, ◌+◌, ◌*◌, ◌≤◌, ◌<◌, length, get_or, set};
 ghost use Rattle.paper.specs.Plain.{value_of};
 ghost use Rattle.tree.specs.Nodes.{kind_of};
