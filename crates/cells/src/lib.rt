@@ -1,5 +1,7 @@
 // Cells by one number each, as in a table: the type's number, and 8 for an input. What stands above these bits is not looked at.
 // Values as lent and as held, refusal 12, and the cells and the starting state of declared variables.
+#![tactic(auto)]
+
 ghost use Rattle.std.specs.Prelude.{◌≡◌, ◌+◌, ◌*◌, ◌≤◌, min, length};
 ghost use Rattle.paper.specs.Judge.{cell_fits, all_fit, lent, over, initial_value};
 ghost use Rattle.variables.specs.Table.{initial_in};
