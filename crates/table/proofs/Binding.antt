@@ -9,7 +9,6 @@ use Rattle.paper.specs.declared.Row.{Row}
 use Rattle.paper.specs.Names.{Info}
 use Rattle.paper.specs.Plain as P
 use Rattle.paper.specs.Plain.{Stmts, assigns, ◌⨾◌}
-use Rattle.paper.specs.Tables as T
 use Rattle.paper.specs.Tables.{Line, row, expression_rows, merge, statement_rows}
 use Rattle.tree.specs.Nodes.{word_of, child_of}
 use Rattle.plain.specs.Flat.{expr_at, list_at}

@@ -1,4 +1,6 @@
 // The next-state table made from ST0: rows in order, then each cell's next row.
+#![tactic(auto)]
+
 ghost use Rattle.std.specs.Prelude.{◌≡◌, ◌+◌, ◌*◌, ◌≤◌, length};
 ghost use Rattle.table.specs.Walks.{Starts, Tabled};
 

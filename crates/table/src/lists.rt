@@ -29,7 +29,7 @@ fn assignment_rows(
 }
 
 // An IF: both lists start from the same rows, THEN in `env` and ELSE in `other`.
-#[cycle(choice_rows_list_rows)]
+#[cycle(lists)]
 fn choice_rows(
     plain: &[u16],
     i: usize,
@@ -53,7 +53,7 @@ fn choice_rows(
 }
 
 // The rows of a list.
-#[cycle(choice_rows_list_rows)]
+#[cycle(lists)]
 pub fn list_rows(
     plain: &[u16],
     i: usize,

@@ -11,7 +11,7 @@ use paper::{Cell, Row, Ty};
 use value::tag_of;
 
 // The number of rows so far, and the row that stands for an expression.
-#[derive(Drop)]
+#[derive(Clone, Copy)]
 pub struct Made {
     pub count: u16,
     pub at: Row,
