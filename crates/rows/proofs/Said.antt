@@ -5,13 +5,11 @@ use mathlib.Core.Path.{◌≡◌, refl, ap, ◌∙◌}
 use Prim.Native.Nat.{ℕ, zero, suc, ◌/◌, ◌%◌, ◌<◌, ◌≤◌}
 use native.Mathlib.Omega.{arith}
 use lib.ListN.{get_or, drop, get_or-map}
-use denote.Enum.Declared.{tag_of}
-use types.Run.{OneOf, miss}
 use Rattle.paper.specs.Plain.{State}
 use Rattle.paper.specs.Tables.{Line, line_in, forms, line_type, line_value, is_non_zero}
+use Rattle.paper.specs.declared.Op.{Op}
 use Rattle.paper.specs.declared.Ty.{Ty}
 use Rattle.rows.specs.declared.forms.Form.{Form}
-use Rattle.rows.specs.contracts.forms.Form.{the_type}
 use Rattle.rows.specs.declared.forms.Form.TheVariants.{Number, Read, Minus, Complement, Select, Binary, Conversion, Unknown}
 use Rattle.rows.specs.Forms.{table, form_in, type_in, said}
 use Rattle.rows.specs.Lent.{head_at, word_at, line_at}
@@ -74,39 +72,42 @@ none_behind (suc (suc k)) h = none_there (drop 2 table) refl k
 pub other_value : (f : Form) (o : ℕ) (s : State) (vals : List ℕ) (t : Ty) (a b c : ℕ)
     → f ≡ form_in (o / 8)
     → 16 ≤ o
-    → OneOf (0 ∷ 1 ∷ 7 ∷ []) (tag_of the_type f)
+    → (f ≡ Minus → ⊥)
+    → (f ≡ Complement → ⊥)
+    → (f ≡ Select → ⊥)
+    → ((p : Op) → f ≡ Binary p → ⊥)
+    → ((u : Ty) → f ≡ Conversion u → ⊥)
     → 0 ≡ line_value s vals (said f t a b c)
-other_value Number o s vals t a b c e k h = absurd (true≢false (ap is_leaf e ∙ none_behind (o / 8) (omega arith)))
-other_value Read o s vals t a b c e k h = absurd (true≢false (ap is_leaf e ∙ none_behind (o / 8) (omega arith)))
-other_value Minus o s vals t a b c e k h = absurd (miss (0 ∷ 1 ∷ 7 ∷ []) 2 tt h)
-other_value Complement o s vals t a b c e k h = absurd (miss (0 ∷ 1 ∷ 7 ∷ []) 3 tt h)
-other_value Select o s vals t a b c e k h = absurd (miss (0 ∷ 1 ∷ 7 ∷ []) 4 tt h)
-other_value (Binary p) o s vals t a b c e k h = absurd (miss (0 ∷ 1 ∷ 7 ∷ []) 5 tt h)
-other_value (Conversion u) o s vals t a b c e k h = absurd (miss (0 ∷ 1 ∷ 7 ∷ []) 6 tt h)
-other_value Unknown o s vals t a b c e k h = refl
+other_value Number o s vals t a b c e k m n l p u = absurd (true≢false (ap is_leaf e ∙ none_behind (o / 8) (omega arith)))
+other_value Read o s vals t a b c e k m n l p u = absurd (true≢false (ap is_leaf e ∙ none_behind (o / 8) (omega arith)))
+other_value Minus o s vals t a b c e k m n l p u = absurd (m refl)
+other_value Complement o s vals t a b c e k m n l p u = absurd (n refl)
+other_value Select o s vals t a b c e k m n l p u = absurd (l refl)
+other_value (Binary q) o s vals t a b c e k m n l p u = absurd (p q refl)
+other_value (Conversion v) o s vals t a b c e k m n l p u = absurd (u v refl)
+other_value Unknown o s vals t a b c e k m n l p u = refl
 
 -- any form but an operator and a conversion has the type of its operands
 pub other_type : (f : Form) (t : Ty) (a b c : ℕ)
-    → OneOf (0 ∷ 1 ∷ 2 ∷ 3 ∷ 4 ∷ 7 ∷ []) (tag_of the_type f)
+    → ((p : Op) → f ≡ Binary p → ⊥)
+    → ((u : Ty) → f ≡ Conversion u → ⊥)
     → t ≡ line_type (said f t a b c)
-other_type Number t a b c h = refl
-other_type Read t a b c h = refl
-other_type Minus t a b c h = refl
-other_type Complement t a b c h = refl
-other_type Select t a b c h = refl
-other_type (Binary o) t a b c h = absurd (miss (0 ∷ 1 ∷ 2 ∷ 3 ∷ 4 ∷ 7 ∷ []) 5 tt h)
-other_type (Conversion u) t a b c h = absurd (miss (0 ∷ 1 ∷ 2 ∷ 3 ∷ 4 ∷ 7 ∷ []) 6 tt h)
-other_type Unknown t a b c h = refl
+other_type Number t a b c p u = refl
+other_type Read t a b c p u = refl
+other_type Minus t a b c p u = refl
+other_type Complement t a b c p u = refl
+other_type Select t a b c p u = refl
+other_type (Binary o) t a b c p u = absurd (p o refl)
+other_type (Conversion v) t a b c p u = absurd (u v refl)
+other_type Unknown t a b c p u = refl
 
 -- any form but a number is no divisor
-pub other_divisor : (f : Form) (t : Ty) (a b c : ℕ)
-    → OneOf (1 ∷ 2 ∷ 3 ∷ 4 ∷ 5 ∷ 6 ∷ 7 ∷ []) (tag_of the_type f)
-    → false ≡ is_non_zero (said f t a b c)
-other_divisor Number t a b c h = absurd (miss (1 ∷ 2 ∷ 3 ∷ 4 ∷ 5 ∷ 6 ∷ 7 ∷ []) 0 tt h)
-other_divisor Read t a b c h = refl
-other_divisor Minus t a b c h = refl
-other_divisor Complement t a b c h = refl
-other_divisor Select t a b c h = refl
-other_divisor (Binary o) t a b c h = refl
-other_divisor (Conversion u) t a b c h = refl
-other_divisor Unknown t a b c h = refl
+pub other_divisor : (f : Form) (t : Ty) (a b c : ℕ) → (f ≡ Number → ⊥) → false ≡ is_non_zero (said f t a b c)
+other_divisor Number t a b c n = absurd (n refl)
+other_divisor Read t a b c n = refl
+other_divisor Minus t a b c n = refl
+other_divisor Complement t a b c n = refl
+other_divisor Select t a b c n = refl
+other_divisor (Binary o) t a b c n = refl
+other_divisor (Conversion u) t a b c n = refl
+other_divisor Unknown t a b c n = refl

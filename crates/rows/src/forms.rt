@@ -5,7 +5,7 @@ ghost use Rattle.rows.specs.Forms.{form_in, type_in};
 use paper::{Op, Ty};
 
 // The forms of a row.
-#[derive(Drop)]
+#[derive(Clone, Copy)]
 pub enum Form {
     Number,
     Read,

@@ -1,4 +1,6 @@
 // The next-state table as it is lent: run, and tested by rule 11.
+#![tactic(auto)]
+
 ghost use Rattle.std.specs.Prelude.{[], ◌≡◌, ◌*◌, ◌≤◌, length, take};
 ghost use Rattle.paper.specs.Tables.{values, infos_of, lines_in, table_in};
 ghost use Rattle.rows.specs.Lent.{IsNext, lent, Answers};

@@ -28,7 +28,7 @@ pub fn is_integer(t: Ty) -> bool
 }
 
 // The four sorts of operators.
-#[derive(Drop)]
+#[derive(Clone, Copy)]
 pub enum Sort {
     Arithmetic,
     Order,
