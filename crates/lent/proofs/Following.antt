@@ -10,7 +10,7 @@ use lib.ListN.{length, take, drop, length-map, drop_of_length-le}
 use lib.Seq.{take_at}
 use Rattle.paper.specs.declared.Why.TheVariants.{BadValue}
 use Rattle.paper.specs.Tables.{run_table}
-use Rattle.paper.specs.Judge.{all_fit, held, lent as lent_as, over, scan_table}
+use Rattle.paper.specs.Judge.{all_fit, lent as lent_as, over, scan_table}
 use Rattle.cells.specs.Numbers.{Says, read_in, info_of}
 use Rattle.cells.proofs.Infos.{infos_map}
 use Rattle.cells.proofs.Values.{length_read}

@@ -1,5 +1,7 @@
 // Tables as they are lent: checked, and scans from them. No public function has a `requires`, and a refusal leaves the state
 // as it was.
+#![tactic(auto)]
+
 ghost use Rattle.std.specs.Prelude.{◌≡◌, ◌&&◌, ◌*◌, leb, length};
 ghost use Rattle.paper.specs.Judge.{scan_lent, scan_checked};
 ghost use Rattle.lent.specs.declared.Outcome.TheVariants.{Refused};
@@ -11,7 +13,7 @@ use paper::Why;
 use rows::{cells_known, next_state, run_rows, table_keeps};
 
 // Done, with what the function counts; or why not, and a place in the text, if there is one.
-#[derive(Drop)]
+#[derive(Clone, Copy)]
 pub enum Outcome {
     Done(usize),
     Refused { why: Why, place: usize },

@@ -1,0 +1,21 @@
+-- `lent::follow` meets its contract: the readings put, and the table run.
+use Rattle.lent.proofs.Following.{follows}
+use Rattle.lent.proofs.follow.Goals as goal
+
+pub returns-then-n-le64 : goal.returns-then-n-le64
+returns-then-n-le64 c =
+    let A = c.args in
+    let P = c.requires in
+    follows A.rows.now A.cells.now A.n A.inputs.now A.state.now _ _ _ P.1 P.0.state P.0.readings c.hold.ensures c.run_table.ensures
+
+pub returns-then-n-le512 : goal.returns-then-n-le512
+returns-then-n-le512 c =
+    let A = c.args in
+    let P = c.requires in
+    follows A.rows.now A.cells.now A.n A.inputs.now A.state.now _ _ _ P.1 P.0.state P.0.readings c.hold.ensures c.run_table-then-n-le512.ensures
+
+pub returns : goal.returns
+returns c =
+    let A = c.args in
+    let P = c.requires in
+    follows A.rows.now A.cells.now A.n A.inputs.now A.state.now _ _ _ P.1 P.0.state P.0.readings c.hold.ensures c.run_table-2.ensures
