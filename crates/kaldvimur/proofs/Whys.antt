@@ -2,9 +2,8 @@
 use mathlib.Core.Path.{◌≡◌, refl, sym, ap, ◌∙◌}
 use Prim.Native.Nat.{ℕ, zero, suc, ◌≤◌, ◌<◌}
 use native.Mathlib.Omega.{arith}
-use Rattle.paper.specs.declared.Why.{Why}
 use Rattle.paper.specs.declared.Why.TheVariants.{TooLong, NoWord, BadShape, TooDeep, BadName, BadType, TooHigh, BadWalk, TooHeavy, NoRoom, BadTable, BadValue}
-use Rattle.paper.specs.Refusals.{number_of, why_of}
+use Rattle.paper.specs.Refusals.{why_of}
 use Rattle.paper.proofs.Whys.{why_number}
 use Rattle.kaldvimur.specs.Outcomes.{IsWhy}
 

@@ -1,4 +1,6 @@
 // The public functions. None has a `requires`; what is lent changes only where the answer is no refusal.
+#![tactic(auto)]
+
 pub mod states;
 pub mod tables;
 

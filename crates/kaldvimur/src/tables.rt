@@ -13,7 +13,7 @@ use paper::Why;
 use table::table_of;
 
 // The numbers of rows and cells; or why not, and a place in the text.
-#[derive(Drop)]
+#[derive(Clone, Copy)]
 pub enum Tabled {
     Made { rows: usize, cells: usize },
     Refused { why: Why, place: usize },
