@@ -1,5 +1,7 @@
 // The public functions for C. A slice is a pointer and a length, in its own elements; at length 0 the pointer isn't looked at.
 // Each function answers 0 for done, or a refusal's number * 65536 + its place, and a refusal changes nothing lent.
+#![tactic(auto)]
+
 ghost use Rattle.std.specs.Prelude.{◌≡◌, ◌<◌};
 ghost use Rattle.paper.specs.Judge.{print_into, start_into, check_lent, scan_lent, scan_checked};
 ghost use Rattle.lent.specs.Tables.{lent_with};
