@@ -10,7 +10,7 @@ use lib.Dec.{leb}
 use lib.ListN.{length, get_or, take, drop, length-take, length-drop, length-append, take-append-drop}
 use lib.Seq.{take-suc, take_all, drop-cons, drop-length}
 use Rattle.paper.specs.Words.{is_digit, begins}
-use Rattle.io.specs.Counts.{IsPrefixLen}
+use Rattle.pack.specs.Records.{IsPrefixLen}
 use Rattle.pack.specs.Records.{Decimal, more, Line}
 use Rattle.pack.proofs.Beginnings.{both, split}
 

@@ -1,7 +1,6 @@
 -- What a pack's bytes say: a number, a line of two numbers, a record's lengths, and what is expected.
 use Rattle.std.specs.Prelude.{◌≡◌, true, false, List, [], ◌∷◌, ◌++◌, ℕ, ◌+◌, ◌-◌, ◌*◌, ◌≤◌, ◌<◌, length, get_or, take}
 use Rattle.paper.specs.Words.{bytes, is_digit, begins}
-use Rattle.io.specs.Counts.{IsPrefixLen}
 use Rattle.pack.specs.declared.Spelled.{Spelled}
 use Rattle.pack.specs.declared.Pair.{Pair}
 use Rattle.pack.specs.declared.Pair.TheVariants.{Of, Neither as NoPair}
@@ -39,6 +38,10 @@ pub record Line (between s : List ℕ) (n p : ℕ) : Type 0 where
 abbrev pub IsPair : List ℕ → List ℕ → Pair → Type 0
 IsPair between s (Of n p) = Line between s n p
 IsPair between s NoPair = Unit {0}
+
+-- the first n bytes of xs lie within it
+abbrev pub IsPrefixLen : ℕ → List ℕ → Type 0
+IsPrefixLen n xs = (n ≤ length xs) × (n ≡ length (take n xs))
 
 -- a whole record lies within the buffers
 abbrev pub IsRecord : List ℕ → List ℕ → Record → Type 0

@@ -1,17 +1,21 @@
 // Records of the vectors: `LLLLL EEEEE` and LF, L bytes of text, E bytes of what is expected for it, and LF.
+#![tactic(auto)]
+
 ghost use Rattle.std.specs.Prelude.{◌≡◌, ◌≤◌, length};
 ghost use Rattle.paper.specs.Words as W;
-ghost use Rattle.pack.specs.Records.{Spells, IsAlone, IsPair, IsRecord, IsExpected};
+ghost use Rattle.pack.specs.Records.{Spells, IsAlone, IsPair, IsPrefixLen, IsRecord, IsExpected};
+
+use std::io::Read;
 
 // The number that digits spell, and how many they are.
-#[derive(Drop)]
+#[derive(Clone, Copy)]
 pub struct Spelled {
     pub value: u64,
     pub count: usize,
 }
 
 // Two numbers of one line, if it holds them and nothing else.
-#[derive(Drop)]
+#[derive(Clone, Copy)]
 pub enum Pair {
     Of(u64, u64),
     Neither,
@@ -19,7 +23,7 @@ pub enum Pair {
 
 // A record in the lent buffers, with the two lengths; none, where the pack ends; one that is cut short or has no heading;
 // or one that is longer than the buffers.
-#[derive(Drop)]
+#[derive(Clone, Copy)]
 pub enum Record {
     Whole(usize, usize),
     Nothing,
@@ -28,7 +32,7 @@ pub enum Record {
 }
 
 // What is expected for a text: a print, or a refusal with its number and its place; or a line that begins as a refusal and is none.
-#[derive(Drop)]
+#[derive(Clone, Copy)]
 pub enum Expected {
     Print,
     Refused(u64, u64),
@@ -101,25 +105,40 @@ pub fn pair_in(s: &[u8], between: &[u8]) -> Pair
     Pair::Of(n.value, p.value)
 }
 
+// Reads into the buffer until it is full, nothing more comes, or a read fails; how many bytes lie in its front.
+pub fn read_full<R: Read>(reader: &mut R, buffer: &mut [u8]) -> usize
+    ensures { IsPrefixLen result buffer.new }
+{
+    let mut done = 0;
+    while done < buffer.len() {
+        match reader.read(&mut buffer[done..]) {
+            Ok(0) => break,
+            Ok(n) => done += n,
+            Err(_) => break,
+        }
+    }
+    done
+}
+
 // Reads `n` bytes into the front of the buffer; whether as many came.
-fn fill(fd: i32, buffer: &mut [u8], n: usize) -> bool
+fn fill<R: Read>(reader: &mut R, buffer: &mut [u8], n: usize) -> bool
     requires { n ≤ length buffer.old }
 {
-    io::read_full(fd, &mut buffer[..n]) == n
+    read_full(reader, &mut buffer[..n]) == n
 }
 
 // Reads LF; whether it came.
-fn line_ends(fd: i32) -> bool {
+fn line_ends<R: Read>(reader: &mut R) -> bool {
     let mut end = [0u8; 1];
-    io::read_full(fd, &mut end) == 1 && end[0] == 10
+    read_full(reader, &mut end) == 1 && end[0] == 10
 }
 
 // The next record of the file.
-pub fn next_record(fd: i32, text: &mut [u8], expected: &mut [u8]) -> Record
+pub fn next_record<R: Read>(reader: &mut R, text: &mut [u8], expected: &mut [u8]) -> Record
     ensures { IsRecord text.new expected.new result }
 {
     let mut head = [0u8; 12];
-    let got = io::read_full(fd, &mut head);
+    let got = read_full(reader, &mut head);
     if got == 0 {
         return Record::Nothing;
     }
@@ -129,10 +148,10 @@ pub fn next_record(fd: i32, text: &mut [u8], expected: &mut [u8]) -> Record
     if (text.len() as u64) < l || (expected.len() as u64) < e {
         return Record::TooLong;
     }
-    if !fill(fd, text, l as usize) {
+    if !fill(reader, text, l as usize) {
         return Record::Broken;
     }
-    if !fill(fd, expected, e as usize) || !line_ends(fd) {
+    if !fill(reader, expected, e as usize) || !line_ends(reader) {
         return Record::Broken;
     }
     Record::Whole(l as usize, e as usize)
