@@ -1,19 +1,21 @@
 // The texts of a pack counted, and our answers compared with the expected ones.
+#![tactic(auto)]
+
 ghost use Rattle.std.specs.Prelude.{◌≡◌, false, ◌≤◌, ◌<◌};
 ghost use Rattle.tally.specs.Counts.{IsWanted, Tallied};
 
-use libc::STDOUT_FILENO;
 use pack::Expected;
+use std::io;
 
 // A refusal's number and its place; 0 and 0 where there is none.
-#[derive(Drop)]
+#[derive(Clone, Copy)]
 pub struct Answer {
     pub number: u64,
     pub place: u64,
 }
 
 // How many texts were tried and how many differ, and whether there may be more.
-#[derive(Drop)]
+#[derive(Clone, Copy)]
 pub struct Tally {
     pub tried: u64,
     pub differ: u64,
@@ -50,20 +52,27 @@ pub fn wanted(s: &[u8], last: u64) -> Answer
     }
 }
 
-fn print_answer(a: Answer) {
-    io::print_decimal(STDOUT_FILENO, a.number);
-    io::write_all(STDOUT_FILENO, b" at ");
-    io::print_decimal(STDOUT_FILENO, a.place);
+fn print_answer(rt: &impl Print, a: Answer) -> io::Result<()> {
+    let Answer { number, place } = a;
+    print!(rt; "{number} at {place}")
 }
 
-fn print_record(n: u64, what: &[u8]) {
-    io::write_all(STDOUT_FILENO, b"record ");
-    io::print_decimal(STDOUT_FILENO, n);
-    io::write_all(STDOUT_FILENO, what);
+fn print_record(rt: &impl Print, n: u64, what: &[u8]) -> io::Result<()> {
+    print!(rt; "record {n}")?;
+    rt.write_all(what)
 }
 
-// One text more: `a` is our answer, `b` the expected one.
-pub fn compared(t: Tally, a: Answer, b: Answer) -> Tally
+// Our answer `a` for the text n, where the expected one `b` is another.
+fn print_difference(rt: &impl Print, n: u64, a: Answer, b: Answer) -> io::Result<()> {
+    print_record(rt, n, b": ")?;
+    print_answer(rt, a)?;
+    print!(rt; ", expected ")?;
+    print_answer(rt, b)?;
+    println!(rt; "")
+}
+
+// One text more: `a` is our answer, `b` the expected one. A line that can't be printed changes no count.
+pub fn compared(rt: &impl Print, t: Tally, a: Answer, b: Answer) -> Tally
     requires { (t.tried < 100000) × (t.differ ≤ t.tried) }
     ensures { Tallied t a b result }
 {
@@ -75,11 +84,7 @@ pub fn compared(t: Tally, a: Answer, b: Answer) -> Tally
             more: true,
         };
     }
-    print_record(n, b": ");
-    print_answer(a);
-    io::write_all(STDOUT_FILENO, b", expected ");
-    print_answer(b);
-    io::write_all(STDOUT_FILENO, b"\n");
+    let _ = print_difference(rt, n, a, b);
     Tally {
         tried: n,
         differ: t.differ + 1,
@@ -88,11 +93,11 @@ pub fn compared(t: Tally, a: Answer, b: Answer) -> Tally
 }
 
 // Nothing more is tried; why, is said behind the record's number.
-pub fn stopped(t: Tally, why: &[u8]) -> Tally
+pub fn stopped(rt: &impl Print, t: Tally, why: &[u8]) -> Tally
     requires { t.tried < 100000 }
     ensures { result ≡ record { tried = t.tried; differ = t.differ; more = false } }
 {
-    print_record(t.tried + 1, why);
+    let _ = print_record(rt, t.tried + 1, why);
     Tally {
         tried: t.tried,
         differ: t.differ,
@@ -101,12 +106,14 @@ pub fn stopped(t: Tally, why: &[u8]) -> Tally
 }
 
 // The counts, once the pack is at its end.
-pub fn print_tally(t: Tally) {
-    if t.more {
-        io::write_all(STDOUT_FILENO, b"there are more records\n");
+pub fn print_tally(rt: &impl Print, t: Tally) -> io::Result<()> {
+    let Tally {
+        tried,
+        differ,
+        more,
+    } = t;
+    if more {
+        println!(rt; "there are more records")?;
     }
-    io::print_decimal(STDOUT_FILENO, t.tried);
-    io::write_all(STDOUT_FILENO, b" texts tried, ");
-    io::print_decimal(STDOUT_FILENO, t.differ);
-    io::write_all(STDOUT_FILENO, b" differ\n");
+    println!(rt; "{tried} texts tried, {differ} differ")
 }
