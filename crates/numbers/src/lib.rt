@@ -1,11 +1,14 @@
 // Whole numbers with their signs, as lines have them: one, several parted by commas, printed, and compared.
+#![tactic(auto)]
+
 ghost use Rattle.std.specs.Prelude.{◌≡◌, true};
 ghost use Rattle.numbers.specs.Spellings.{IsTen, IsPlain, IsWhole, IsListed};
 
 use pack::Spelled;
+use std::io;
 
 // A whole number and how many bytes it has, or none.
-#[derive(Drop)]
+#[derive(Clone, Copy)]
 pub struct Whole {
     pub some: bool,
     pub value: i64,
@@ -13,7 +16,7 @@ pub struct Whole {
 }
 
 // How many values were put, and how many bytes they have; not `some` where they are no list or too many.
-#[derive(Drop)]
+#[derive(Clone, Copy)]
 pub struct Listed {
     pub some: bool,
     pub values: usize,
@@ -118,12 +121,7 @@ pub fn same_values(a: &[i64], b: &[i64]) -> bool
     true
 }
 
-// Writes z in decimal. Below 0 it goes by -1 - z, which fits for the least z too.
-pub fn print_whole(fd: i32, z: i64) {
-    if z < 0 {
-        io::write_all(fd, b"-");
-        io::print_decimal(fd, (-1 - z) as u64 + 1);
-    } else {
-        io::print_decimal(fd, z as u64);
-    }
+// Writes z in decimal.
+pub fn print_whole(rt: &impl Print, z: i64) -> io::Result<()> {
+    print!(rt; "{z}")
 }
