@@ -2,8 +2,8 @@
 ghost use Rattle.std.specs.Prelude.{◌≤◌, length};
 
 use crate::lines::{line_of, word_of};
-use libc::STDOUT_FILENO;
 use pack::begins;
+use std::io;
 
 // Whether a section ends by the line that `s` begins with.
 fn ends(s: &[u8]) -> bool {
@@ -45,26 +45,24 @@ pub fn inputs_in(print: &[u8]) -> usize
 }
 
 // A name, in a column.
-fn print_name(name: &[u8]) {
-    io::write_all(STDOUT_FILENO, b"\t");
-    io::write_all(STDOUT_FILENO, name);
+fn print_name(rt: &impl Print, name: &[u8]) -> io::Result<()> {
+    print!(rt; "\t")?;
+    rt.write_all(name)
 }
 
-fn print_element(name: &[u8], i: u64) {
-    print_name(name);
-    io::write_all(STDOUT_FILENO, b"[");
-    io::print_decimal(STDOUT_FILENO, i);
-    io::write_all(STDOUT_FILENO, b"]");
+fn print_element(rt: &impl Print, name: &[u8], i: u64) -> io::Result<()> {
+    print_name(rt, name)?;
+    print!(rt; "[{i}]")
 }
 
 // An array's elements.
-fn print_elements(name: &[u8], low: u64, high: u64) {
+fn print_elements(rt: &impl Print, name: &[u8], low: u64, high: u64) -> io::Result<()> {
     let mut i = low;
     while i < high {
-        print_element(name, i);
+        print_element(rt, name, i)?;
         i += 1;
     }
-    print_element(name, high);
+    print_element(rt, name, high)
 }
 
 // An array's bound, which has no minus.
@@ -73,39 +71,39 @@ fn bound(z: i64) -> u64 {
 }
 
 // The elements of an array whose bounds `s` begins with.
-fn print_array(name: &[u8], s: &[u8]) {
+fn print_array(rt: &impl Print, name: &[u8], s: &[u8]) -> io::Result<()> {
     let low = numbers::whole_in(s);
     let n = low.count;
     let rest = &s[n..];
     if !begins(rest, b"..") {
-        return;
+        return Ok(());
     }
     let high = numbers::whole_in(&rest[2..]);
-    print_elements(name, bound(low.value), bound(high.value));
+    print_elements(rt, name, bound(low.value), bound(high.value))
 }
 
 // What a declaration declares, each cell in a column.
-fn print_cells(line: &[u8]) {
+fn print_cells(rt: &impl Print, line: &[u8]) -> io::Result<()> {
     let n = word_of(line);
     let name = &line[..n];
     let rest = &line[n..];
     if begins(rest, b" : ARRAY[") {
-        print_array(name, &rest[9..]);
-        return;
+        return print_array(rt, name, &rest[9..]);
     }
-    print_name(name);
+    print_name(rt, name)
 }
 
 // The names of the cells that are no inputs.
-pub fn print_names(print: &[u8]) {
+pub fn print_names(rt: &impl Print, print: &[u8]) -> io::Result<()> {
     let mut at = 0;
     let mut inside = false;
     while at < print.len() {
         let rest = &print[at..];
         if inside && !ends(rest) {
-            print_cells(rest);
+            print_cells(rt, rest)?;
         }
         inside = is_inside(rest, inside, false);
         at += line_of(rest);
     }
+    Ok(())
 }
