@@ -1,10 +1,13 @@
 // Every record of data/st0.pack: the refusals 1 to 7 against what is expected; with any other answer the text is sound so far.
+#![tactic(auto)]
+
 ghost use Rattle.std.specs.Prelude.{◌≤◌, ◌<◌, length};
 ghost use Rattle.judge.specs.Rules.{sound};
 ghost use Rattle.tally.specs.Counts.{Says, Went};
 
-use libc::STDOUT_FILENO;
 use pack::Record;
+use std::io::Read;
+use std::{fs, io};
 use tally::{Answer, MOST, Tally, compared, print_tally, stopped, wanted};
 
 // The first of the refusals 1 to 7 of a text.
@@ -19,7 +22,7 @@ fn rules(text: &[u8], pool: &mut [u16], table: &mut [u16], scratch: &mut [u16]) 
 }
 
 // The next record tried.
-fn one_more(fd: i32, t: Tally) -> Tally
+fn one_more<P: Print, R: Read>(rt: &P, reader: &mut R, t: Tally) -> Tally
     requires { (t.tried < 100000) × (t.differ ≤ t.tried) }
     ensures { Went t result }
 {
@@ -28,40 +31,37 @@ fn one_more(fd: i32, t: Tally) -> Tally
     let mut pool = [0u16; 32772];
     let mut table = [0u16; 32768];
     let mut scratch = [0u16; 8192];
-    match pack::next_record(fd, &mut text, &mut expected) {
+    match pack::next_record(reader, &mut text, &mut expected) {
         Record::Whole(l, e) => {
             let a = rules(&text[..l], &mut pool, &mut table, &mut scratch);
-            compared(t, a, wanted(&expected[..e], 7))
+            compared(rt, t, a, wanted(&expected[..e], 7))
         }
         Record::Nothing => Tally {
             tried: t.tried,
             differ: t.differ,
             more: false,
         },
-        Record::Broken => stopped(t, b" is broken\n"),
-        Record::TooLong => stopped(t, b" is too long\n"),
+        Record::Broken => stopped(rt, t, b" is broken\n"),
+        Record::TooLong => stopped(rt, t, b" is too long\n"),
     }
 }
 
-fn all(fd: i32) -> Tally {
+fn all<P: Print, R: Read>(rt: &P, reader: &mut R) -> Tally {
     let mut t = Tally {
         tried: 0,
         differ: 0,
         more: true,
     };
     while t.more && t.tried < MOST {
-        t = one_more(fd, t);
+        t = one_more(rt, reader, t);
     }
     t
 }
 
-fn main() {
-    let fd = os::open_read(b"st0.pack");
-    if fd < 0 {
-        io::write_all(STDOUT_FILENO, b"st0.pack cannot be opened\n");
-        return;
-    }
-    let t = all(fd);
-    libc::close(fd);
-    print_tally(t);
+fn main(rt: HostRuntime) -> io::Result<()> {
+    let Ok(mut file) = fs::open(&rt, "st0.pack") else {
+        return println!(rt; "st0.pack cannot be opened");
+    };
+    let t = all(&rt, &mut file);
+    print_tally(&rt, t)
 }
