@@ -1,7 +1,7 @@
 -- Texts and verdicts compared.
 use mathlib.Core.Path.{◌≡◌, refl, sym, ap, ap₂, ◌∙◌}
 use mathlib.Core.Bool.{Bool, true, false, not, true≢false}
-use mathlib.Core.List.{List, [], ◌++◌, append-nil}
+use mathlib.Core.List.{List, ◌++◌, append-nil}
 use Prim.Native.Nat.{ℕ}
 use lib.ListN.{length, drop}
 use lib.Seq.{drop-length}

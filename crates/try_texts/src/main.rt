@@ -1,14 +1,18 @@
 // Every record of data/st0.pack and data/cases.pack: the print or the refusal against what is expected; a print that is short enough
 // is read again, and gives the same print and the same four numbers.
+#![tactic(auto)]
+
 ghost use Rattle.std.specs.Prelude.{◌≡◌, true, ◌≤◌, ◌<◌};
 ghost use Rattle.paper.specs.Judge.{verdict};
 ghost use Rattle.tally.specs.Counts.{Went};
 ghost use Rattle.try_texts.specs.Prints.{Again, PrintedAs, Answered};
 
 use kaldvimur::Outcome;
-use libc::STDOUT_FILENO;
 use pack::Record;
 use paper::{Verdict, number};
+use std::io::Read;
+use std::rt::Files;
+use std::{fs, io};
 use tally::{Answer, MOST, Tally, compared, print_tally, stopped, wanted};
 
 fn same(a: &[u8], b: &[u8]) -> bool
@@ -110,54 +114,52 @@ fn answer(text: &[u8], expected: &[u8]) -> Answer
 }
 
 // The next record tried.
-fn one_more(fd: i32, t: Tally) -> Tally
+fn one_more<P: Print, R: Read>(rt: &P, reader: &mut R, t: Tally) -> Tally
     requires { (t.tried < 100000) × (t.differ ≤ t.tried) }
     ensures { Went t result }
 {
     let mut text = [0u8; 100000];
     let mut expected = [0u8; 100000];
-    match pack::next_record(fd, &mut text, &mut expected) {
+    match pack::next_record(reader, &mut text, &mut expected) {
         Record::Whole(l, e) => {
             let a = answer(&text[..l], &expected[..e]);
-            compared(t, a, wanted(&expected[..e], 12))
+            compared(rt, t, a, wanted(&expected[..e], 12))
         }
         Record::Nothing => Tally {
             tried: t.tried,
             differ: t.differ,
             more: false,
         },
-        Record::Broken => stopped(t, b" is broken\n"),
-        Record::TooLong => stopped(t, b" is too long\n"),
+        Record::Broken => stopped(rt, t, b" is broken\n"),
+        Record::TooLong => stopped(rt, t, b" is too long\n"),
     }
 }
 
-fn all(fd: i32) -> Tally {
+fn all<P: Print, R: Read>(rt: &P, reader: &mut R) -> Tally {
     let mut t = Tally {
         tried: 0,
         differ: 0,
         more: true,
     };
     while t.more && t.tried < MOST {
-        t = one_more(fd, t);
+        t = one_more(rt, reader, t);
     }
     t
 }
 
 // Every record of the file with this name.
-fn pack_of(name: &[u8]) {
-    let fd = os::open_read(name);
-    io::write_all(STDOUT_FILENO, name);
-    if fd < 0 {
-        io::write_all(STDOUT_FILENO, b" cannot be opened\n");
-        return;
-    }
-    io::write_all(STDOUT_FILENO, b": ");
-    let t = all(fd);
-    libc::close(fd);
-    print_tally(t);
+fn pack_of<R: Files + Print>(rt: &R, name: &str) -> io::Result<()> {
+    let opened = fs::open(rt, name);
+    print!(rt; "{name}")?;
+    let Ok(mut file) = opened else {
+        return println!(rt; " cannot be opened");
+    };
+    print!(rt; ": ")?;
+    let t = all(rt, &mut file);
+    print_tally(rt, t)
 }
 
-fn main() {
-    pack_of(b"st0.pack");
-    pack_of(b"cases.pack");
+fn main(rt: HostRuntime) -> io::Result<()> {
+    pack_of(&rt, "st0.pack")?;
+    pack_of(&rt, "cases.pack")
 }
