@@ -6,7 +6,7 @@ use crate::lines::{behind, refusal_in, values_in};
 use pack::begins;
 
 // The number that stands first in a line, and how many values stand behind it; no values where the line is another.
-#[derive(Drop)]
+#[derive(Clone, Copy)]
 struct Counted {
     count: usize,
     values: usize,

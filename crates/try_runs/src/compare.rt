@@ -10,7 +10,7 @@ use numbers::same_values;
 use paper::number;
 
 // What is expected: what a function counts, or a refusal with its number and its place.
-#[derive(Drop)]
+#[derive(Clone, Copy)]
 pub enum Wanted {
     Count(u64),
     Refusal(u64, u64),

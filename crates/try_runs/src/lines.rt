@@ -7,7 +7,7 @@ use numbers::listed_in;
 use pack::{Expected, begins};
 
 // A part of a line, up to the place behind its LF.
-#[derive(Drop)]
+#[derive(Clone, Copy)]
 pub struct Span {
     pub from: usize,
     pub end: usize,

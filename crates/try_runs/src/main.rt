@@ -1,5 +1,7 @@
 // Every record of data/runs.pack and data/lent.pack: a text's starting state and scans, by the text and from its table, and
 // buffers too short for them; and of data/tables.pack: a lent table checked and scanned.
+#![tactic(auto)]
+
 mod cases;
 mod compare;
 mod lines;
@@ -11,8 +13,10 @@ ghost use Rattle.tally.specs.Counts.{Went};
 
 use crate::cases::case_as;
 use crate::runs::text_as;
-use libc::STDOUT_FILENO;
 use pack::Record;
+use std::io::Read;
+use std::rt::Files;
+use std::{fs, io};
 use tally::{Answer, MOST, Tally, compared, print_tally, stopped};
 
 // 0 where a record is as expected.
@@ -33,16 +37,17 @@ fn answer(tables: bool, text: &[u8], expected: &[u8]) -> Answer {
 }
 
 // The next record tried.
-fn one_more(fd: i32, tables: bool, t: Tally) -> Tally
+fn one_more<P: Print, R: Read>(rt: &P, reader: &mut R, tables: bool, t: Tally) -> Tally
     requires { (t.tried < 100000) × (t.differ ≤ t.tried) }
     ensures { Went t result }
 {
     let mut text = [0u8; 100000];
     let mut expected = [0u8; 100000];
-    match pack::next_record(fd, &mut text, &mut expected) {
+    match pack::next_record(reader, &mut text, &mut expected) {
         Record::Whole(l, e) => {
             let a = answer(tables, &text[..l], &expected[..e]);
             compared(
+                rt,
                 t,
                 a,
                 Answer {
@@ -56,39 +61,37 @@ fn one_more(fd: i32, tables: bool, t: Tally) -> Tally
             differ: t.differ,
             more: false,
         },
-        Record::Broken => stopped(t, b" is broken\n"),
-        Record::TooLong => stopped(t, b" is too long\n"),
+        Record::Broken => stopped(rt, t, b" is broken\n"),
+        Record::TooLong => stopped(rt, t, b" is too long\n"),
     }
 }
 
-fn all(fd: i32, tables: bool) -> Tally {
+fn all<P: Print, R: Read>(rt: &P, reader: &mut R, tables: bool) -> Tally {
     let mut t = Tally {
         tried: 0,
         differ: 0,
         more: true,
     };
     while t.more && t.tried < MOST {
-        t = one_more(fd, tables, t);
+        t = one_more(rt, reader, tables, t);
     }
     t
 }
 
 // Every record of the file with this name.
-fn pack_of(name: &[u8], tables: bool) {
-    let fd = os::open_read(name);
-    io::write_all(STDOUT_FILENO, name);
-    if fd < 0 {
-        io::write_all(STDOUT_FILENO, b" cannot be opened\n");
-        return;
-    }
-    io::write_all(STDOUT_FILENO, b": ");
-    let t = all(fd, tables);
-    libc::close(fd);
-    print_tally(t);
+fn pack_of<R: Files + Print>(rt: &R, name: &str, tables: bool) -> io::Result<()> {
+    let opened = fs::open(rt, name);
+    print!(rt; "{name}")?;
+    let Ok(mut file) = opened else {
+        return println!(rt; " cannot be opened");
+    };
+    print!(rt; ": ")?;
+    let t = all(rt, &mut file, tables);
+    print_tally(rt, t)
 }
 
-fn main() {
-    pack_of(b"runs.pack", false);
-    pack_of(b"lent.pack", false);
-    pack_of(b"tables.pack", true);
+fn main(rt: HostRuntime) -> io::Result<()> {
+    pack_of(&rt, "runs.pack", false)?;
+    pack_of(&rt, "lent.pack", false)?;
+    pack_of(&rt, "tables.pack", true)
 }
