@@ -1,5 +1,5 @@
 /*
- * Kaldvimur for C and C++: link with libkaldvimur_c.a (`rt staticlib kaldvimur_c`, code for x86-64).
+ * Kaldvimur for C and C++: link with libkaldvimur_c.a (`rt lib` in crates/kaldvimur_c, out/libkaldvimur_c.a, code for x86-64).
  *
  * Every function answers 0 when it is done, else number * 65536 + place: why it refuses, and the byte of the text
  * where. After a refusal every lent buffer is as it was before the call.
@@ -53,8 +53,8 @@ extern "C" {
 #define KV_ROW 4                                       /* uint32_t of one row */
 #define KV_ROOM(weight, cells) (KV_ROW * ((weight) + (cells))) /* uint32_t to lend for the rows of a text's table */
 
-/* Bytes of stack to have free for a call: measured on the worst text that is known (bench/run prints it), and a tenth on top.
-   No proof speaks of the stack. */
+/* Bytes of stack to have free for a call: measured with the older kit on the worst text that is known (bench/run prints it),
+   and a tenth on top; today's kit takes less. No proof speaks of the stack. */
 #define KV_STACK_TEXT (2304 * 1024) /* functions that take a text */
 #define KV_STACK_TABLE (20 * 1024)  /* functions that take a table */
 
