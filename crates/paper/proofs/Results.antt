@@ -1,7 +1,7 @@
 -- The twelve results of document 01 as one table, each row named by its letter, and the example of 'ST0 in print'.
 -- They follow by computation; a program goes in as its text.
 use mathlib.Core.Path.{◌≡◌, refl}
-use mathlib.Core.List.{List, [], ◌∷◌}
+use mathlib.Core.List.{[], ◌∷◌}
 use Prim.Native.Nat.{ℕ}
 use Prim.Native.String.{String}
 use lib.IntN.{ℤ, pos, neg_ℤ}
@@ -10,7 +10,7 @@ use Rattle.paper.specs.declared.Ty.{Ty}
 use Rattle.paper.specs.declared.Ty.TheVariants.{Int as INT, Uint as UINT, Dint as DINT}
 use Rattle.paper.specs.declared.Op.{Op}
 use Rattle.paper.specs.declared.Op.TheVariants.{Div, Mod, Add, Sub}
-use Rattle.paper.specs.declared.Verdict.TheVariants.{Accepted}
+use Rattle.std.specs.Prelude.{Ok}
 use Rattle.paper.specs.Refusals.{given}
 use Rattle.paper.specs.Types.{encode, decode, apply, convert}
 use Rattle.paper.specs.Words.{bytes}
@@ -47,7 +47,7 @@ abbrev last : String
 last = "PROGRAM P VAR V, S : INT; END_VAR FOR V := 32766 TO 32767 DO S := S + 1; END_FOR; END_PROGRAM"
 
 pub record Twelve : Type 0 where
-  pub a : verdict (bytes meter) ≡ Accepted 3 10 4 208
+  pub a : verdict (bytes meter) ≡ Ok (record { cells = 3; weight = 10; figure = 4; length = 208 })
   pub b : Runs meter
       (pos 0 ∷ pos 0 ∷ pos 0 ∷ [])
       ((pos 3 ∷ pos 0 ∷ pos 0 ∷ []) ∷ (pos 3 ∷ pos 0 ∷ pos 0 ∷ []) ∷ (pos 7 ∷ pos 0 ∷ pos 0 ∷ []) ∷ [])

@@ -1,10 +1,10 @@
 -- A text run for some scans in four ways, for results that are proved by computation.
-use mathlib.Core.Path.{◌≡◌, refl}
-use mathlib.Core.Option.{Option, none, some}
+use mathlib.Core.Path.{◌≡◌}
+use mathlib.Core.Option.{none, some}
 use mathlib.Core.List.{List, [], ◌∷◌}
 use Prim.Native.Nat.{ℕ}
 use Prim.Native.String.{String}
-use lib.IntN.{ℤ, pos}
+use lib.IntN.{ℤ}
 use lib.ListN.{replicate}
 use Rattle.paper.specs.Types
 use Rattle.paper.specs.Words

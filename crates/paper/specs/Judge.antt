@@ -1,12 +1,11 @@
 -- The whole order of refusals, the starting state, a scan, and runs of scans.
-use Rattle.std.specs.Prelude.{Bool, true, cond, ◌&&◌, List, [], ◌∷◌, ◌++◌, ℕ, ◌+◌, ◌*◌, min, leb, ℤ, pos, length, drop, replicate}
+use Rattle.std.specs.Prelude.{Bool, true, cond, ◌&&◌, List, [], ◌∷◌, ◌++◌, ℕ, ◌+◌, ◌*◌, min, leb, ℤ, pos, length, drop, replicate, Result, Ok, Err}
 use Rattle.std.proofs.Math.Option.{Option, none, some}
-use Rattle.paper.specs.declared.Ty.{Ty}
 use Rattle.paper.specs.declared.Why.{Why}
 use Rattle.paper.specs.declared.Why.TheVariants.{TooLong, BadName, BadType, TooHigh, NoRoom, BadTable, BadValue}
-use Rattle.paper.specs.declared.Verdict.{Verdict}
-use Rattle.paper.specs.declared.Verdict.TheVariants.{Accepted, Refused}
-use Rattle.paper.specs.Refusals.{Answer, refused, given, ◌>>=◌}
+use Rattle.paper.specs.declared.Refusal.{Refusal}
+use Rattle.paper.specs.declared.Accepted.{Accepted}
+use Rattle.paper.specs.Refusals.{Answer, refused, given, refusal, ◌>>=◌}
 use Rattle.paper.specs.Types.{fits, encode, decode, bit}
 use Rattle.paper.specs.Words.{words_of}
 use Rattle.paper.specs.Source.{Program, Initial, nothing, value, flag}
@@ -60,12 +59,16 @@ judge text = do
 unfoldable pub print_of : Sound → List ℕ
 print_of a = print a.program.name a.program.declared a.variables a.plain
 
--- the four numbers of acceptance, or the refusal
-abbrev pub verdict_on : Answer Sound → Verdict
-verdict_on (refused w p) = Refused w p
-verdict_on (given a) = Accepted (length a.cells) a.weight (figure a.plain) (length (print_of a))
+-- the four numbers of acceptance
+abbrev pub accepted : Sound → Accepted
+accepted a = record { cells = length a.cells; weight = a.weight; figure = figure a.plain; length = length (print_of a) }
 
-unfoldable pub verdict : List ℕ → Verdict
+-- or the refusal
+abbrev pub verdict_on : Answer Sound → Result Accepted Refusal
+verdict_on (refused w p) = Err (refusal w p)
+verdict_on (given a) = Ok (accepted a)
+
+unfoldable pub verdict : List ℕ → Result Accepted Refusal
 verdict text = verdict_on (judge text)
 
 -- 10: n places are needed in a lent buffer

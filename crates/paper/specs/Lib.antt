@@ -1,5 +1,6 @@
 pub mod Refusals
 pub mod Types
+pub mod Numbers
 pub mod Words
 pub mod Source
 pub mod Reading

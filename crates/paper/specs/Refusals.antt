@@ -1,6 +1,7 @@
 -- The numbers that answer a refusal, and what every stage answers.
-use Rattle.std.specs.Prelude.{List, [], ◌∷◌, ℕ, ◌-◌, get_or}
+use Rattle.std.specs.Prelude.{◌≡◌, List, [], ◌∷◌, ℕ, ◌-◌, get_or, Result, Err, MatchResult}
 use Rattle.paper.specs.declared.Why.{Why}
+use Rattle.paper.specs.declared.Refusal.{Refusal}
 use Rattle.paper.specs.declared.Why.TheVariants.{TooLong, NoWord, BadShape, TooDeep, BadName, BadType, TooHigh, BadWalk, TooHeavy, NoRoom, BadTable, BadValue}
 
 abbrev pub number_of : Why → ℕ
@@ -28,6 +29,15 @@ why_of n = get_or whys (n - 1) BadValue
 pub data Answer (A : Type 0) : Type 0 where
   refused : Why → ℕ → Answer A
   given : A → Answer A
+
+-- as the functions say it
+abbrev pub refusal : Why → ℕ → Refusal
+refusal w p = record { why = w; place = p }
+
+-- a function's result r is that refusal, or what P says of what was asked for
+abbrev pub Gives : {A T : Type 0} → (A → T → Type 0) → Answer A → Result T Refusal → Type 0
+Gives P (refused w p) r = r ≡ Err (refusal w p)
+Gives P (given x) r = MatchResult r (P x) (λ e. ⊥)
 
 -- one stage after another: the first refusal is the answer
 infixl 20 ◌>>=◌

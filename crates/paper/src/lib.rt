@@ -2,10 +2,12 @@
 #![tactic(auto)]
 
 ghost use Rattle.std.specs.Prelude.{◌≡◌};
+ghost use Rattle.paper.specs.Types.{tag};
+ghost use Rattle.paper.specs.Numbers.{Numbers};
 ghost use Rattle.paper.specs.Refusals.{number_of};
 
 // The five types.
-#[derive(Clone, Copy)]
+#[derive(Clone, Copy, PartialEq, Eq)]
 pub enum Ty {
     Bool,
     Int,
@@ -14,8 +16,45 @@ pub enum Ty {
     Udint,
 }
 
+// A number that no type has.
+#[derive(Clone, Copy, PartialEq, Eq)]
+pub struct UnknownType(pub u32);
+
+// A type's number in a table.
+impl From<Ty> for u8 {
+    ghost from_gives = { λ t n. n ≡ tag t };
+
+    fn from(t: Ty) -> u8 {
+        match t {
+            Ty::Bool => 0,
+            Ty::Int => 1,
+            Ty::Uint => 2,
+            Ty::Dint => 3,
+            Ty::Udint => 4,
+        }
+    }
+}
+
+// The type with a number.
+impl TryFrom<u32> for Ty {
+    type Error = UnknownType;
+
+    ghost try_from_gives = { Numbers };
+
+    fn try_from(n: u32) -> Result<Ty, UnknownType> {
+        match n {
+            0 => Ok(Ty::Bool),
+            1 => Ok(Ty::Int),
+            2 => Ok(Ty::Uint),
+            3 => Ok(Ty::Dint),
+            4 => Ok(Ty::Udint),
+            _ => Err(UnknownType(n)),
+        }
+    }
+}
+
 // The section kinds, in printed order.
-#[derive(Clone, Copy)]
+#[derive(Clone, Copy, PartialEq, Eq)]
 pub enum Kind {
     Input,
     Output,
@@ -23,7 +62,7 @@ pub enum Kind {
 }
 
 // The operators with two operands.
-#[derive(Clone, Copy)]
+#[derive(Clone, Copy, PartialEq, Eq)]
 pub enum Op {
     Mul,
     Div,
@@ -42,14 +81,14 @@ pub enum Op {
 }
 
 // A cell's number and a row's number are counted apart.
-#[derive(Clone, Copy)]
+#[derive(Clone, Copy, PartialEq, Eq)]
 pub struct Cell(pub u16);
 
-#[derive(Clone, Copy)]
+#[derive(Clone, Copy, PartialEq, Eq)]
 pub struct Row(pub u16);
 
 // Why something is refused, in the order of the refusals' numbers.
-#[derive(Clone, Copy)]
+#[derive(Clone, Copy, PartialEq, Eq)]
 pub enum Why {
     TooLong,
     NoWord,
@@ -65,37 +104,43 @@ pub enum Why {
     BadValue,
 }
 
-// What acceptance answers: four numbers, or why not, and a place in the text.
-#[derive(Clone, Copy)]
-pub enum Verdict {
-    Accepted {
-        cells: usize,
-        weight: usize,
-        figure: usize,
-        length: usize,
-    },
-    Refused {
-        why: Why,
-        place: usize,
-    },
+// A refusal: why, and the place in the text; 0 for what no place in a text has.
+#[derive(Clone, Copy, PartialEq, Eq)]
+pub struct Refusal {
+    pub why: Why,
+    pub place: usize,
 }
 
+// The four numbers of an accepted text.
+#[derive(Clone, Copy, PartialEq, Eq)]
+pub struct Accepted {
+    pub cells: usize,
+    pub weight: usize,
+    pub figure: usize,
+    pub length: usize,
+}
+
+// What acceptance answers.
+pub type Verdict = Result<Accepted, Refusal>;
+
 // The number that answers a refusal.
-pub fn number(why: Why) -> u8
-    ensures { result ≡ number_of why }
-{
-    match why {
-        Why::TooLong => 1,
-        Why::NoWord => 2,
-        Why::BadShape => 3,
-        Why::TooDeep => 4,
-        Why::BadName => 5,
-        Why::BadType => 6,
-        Why::TooHigh => 7,
-        Why::BadWalk => 8,
-        Why::TooHeavy => 9,
-        Why::NoRoom => 10,
-        Why::BadTable => 11,
-        Why::BadValue => 12,
+impl From<Why> for u8 {
+    ghost from_gives = { λ why n. n ≡ number_of why };
+
+    fn from(why: Why) -> u8 {
+        match why {
+            Why::TooLong => 1,
+            Why::NoWord => 2,
+            Why::BadShape => 3,
+            Why::TooDeep => 4,
+            Why::BadName => 5,
+            Why::BadType => 6,
+            Why::TooHigh => 7,
+            Why::BadWalk => 8,
+            Why::TooHeavy => 9,
+            Why::NoRoom => 10,
+            Why::BadTable => 11,
+            Why::BadValue => 12,
+        }
     }
 }

@@ -2,13 +2,12 @@
 // Sums, differences and products are worked out on the residues themselves; quotients and orders on the values, in i64.
 #![tactic(auto)]
 
-ghost use Rattle.std.specs.Prelude.{◌≡◌, cond, ◌-◌, ◌%◌, ◌^◌};
-ghost use Rattle.std.proofs.Math.ListN.{get_elem?};
+ghost use Rattle.std.specs.Prelude.{◌≡◌, cond, ◌-◌, ◌%◌, ◌^◌, get_or};
 ghost use Rattle.std.specs.Int.Signed.{lt_z, le_z};
+ghost use Rattle.paper.specs.declared.Ty.TheVariants.{Bool as BOOL};
 ghost use Rattle.paper.specs.Types as Types;
-ghost use Rattle.paper.specs.Types.{width, signed, tag, same_ty, lowest, highest, encode, decode, add, sub, mul, negate, quotient, remainder, convert, bit, is_true, equal};
+ghost use Rattle.paper.specs.Types.{width, signed, lowest, highest, encode, decode, add, sub, mul, negate, quotient, remainder, convert, bit, is_true, equal};
 ghost use Rattle.paper.specs.Tables.{types};
-ghost use Rattle.value.specs.Known.{known};
 
 use paper::{Op, Ty};
 
@@ -27,45 +26,11 @@ pub fn is_signed(t: Ty) -> bool
     }
 }
 
-// A type's number in a table.
-pub fn tag_of(t: Ty) -> u8
-    ensures { result ≡ tag t }
+// The type with a number, BOOL for a number that no type has.
+pub fn type_with(n: u32) -> Ty
+    ensures { result ≡ get_or types n BOOL }
 {
-    match t {
-        Ty::Bool => 0,
-        Ty::Int => 1,
-        Ty::Uint => 2,
-        Ty::Dint => 3,
-        Ty::Udint => 4,
-    }
-}
-
-// Two types are the same where their numbers are.
-pub fn same_type(t: Ty, u: Ty) -> bool
-    ensures { result ≡ same_ty t u }
-{
-    tag_of(t) == tag_of(u)
-}
-
-// What a number names: a type, or nothing.
-#[derive(Clone, Copy)]
-pub enum Known {
-    Type(Ty),
-    Unknown,
-}
-
-// The type with the number n.
-pub fn type_of(n: u32) -> Known
-    ensures { result ≡ known (get_elem? types n) }
-{
-    match n {
-        0 => Known::Type(Ty::Bool),
-        1 => Known::Type(Ty::Int),
-        2 => Known::Type(Ty::Uint),
-        3 => Known::Type(Ty::Dint),
-        4 => Known::Type(Ty::Udint),
-        _ => Known::Unknown,
-    }
+    Ty::try_from(n).unwrap_or(Ty::Bool)
 }
 
 // The end of a type at or below 0.
