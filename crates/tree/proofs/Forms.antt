@@ -12,7 +12,7 @@ use borrow.Author.Tests.{ne_eqb}
 use Rattle.paper.specs.declared.Ty.TheVariants.{Bool as BOOL}
 use Rattle.paper.specs.declared.Kind.TheVariants.{Other}
 use Rattle.paper.specs.declared.Op.TheVariants.{Or}
-use Rattle.paper.specs.Source.{Expr, number, truth, variable, element, minus, complement, binary, conversion, brackets, one, range, Stmts, done, assign, choice, select, arm, loop, array, value, flag}
+use Rattle.paper.specs.Source.{Expr, number, truth, variable, element, minus, complement, binary, conversion, brackets, range, Stmts, done, assign, choice, select, arm, loop, array, value, flag}
 use Rattle.paper.specs.Reading.{declare}
 use Rattle.tree.specs.Nodes.{word_of, kind_of, child_of, written}
 use Rattle.tree.specs.Trees.{name_at, types, operators, kinds, wide, whole_at, place_at, ExprForm, number_form, binary_form, expr_forms, expr_at, label_at, labels_at, ArmsForm, arms_forms, FrontForm, front_forms, front_at, arms_at, names_at, bounds_at, initial_at, declaration_at, declared_at, program_at}
@@ -69,9 +69,6 @@ module _ (p : List ℕ) (n a b c : ℕ) (some : 0 < n) (fits : 4 * n + 4 ≤ len
 
   pub put_whole : (k : ℕ) → whole_at (written p n k a b c) n ≡ whole k a b
   put_whole k = rw (written_word0 p n k a b c fits, put_wide k)
-
-  pub put_label : (k : ℕ) → eqb k 31 ≡ false → label_at (written p n k a b c) n ≡ one c (whole k a b)
-  put_label k e = rw (written_word0 p n k a b c fits, e, put_wide k, put_place p n k a b c fits)
 
   pub put_range : a < n → b < n → label_at (written p n 31 a b c) n ≡ range (place_at p a) (whole_at p a) (place_at p b) (whole_at p b)
   put_range x y =

@@ -6,9 +6,9 @@ use Prim.Native.Nat.{ℕ, zero, suc, ◌+◌, ◌*◌, ◌-◌, ◌/◌, ◌%◌
 use native.Mathlib.Omega.{arith}
 use lib.ListN.{get_or}
 use Rattle.paper.specs.declared.Ty.TheVariants.{Bool as BOOL}
-use Rattle.paper.specs.Source.{Expr, number, truth, variable, element, minus, complement, conversion, brackets, Stmts, done, Label, single, nothing, Named, Declared}
+use Rattle.paper.specs.Source.{Expr, number, truth, variable, element, minus, complement, conversion, brackets, Stmts, done, Label, Named, Declared}
 use Rattle.tree.specs.Nodes.{word_of, child_of, Same}
-use Rattle.tree.specs.Trees.{name_at, types, operators, nil, wide, whole_at, place_at, ExprForm, number_form, binary_form, expr_forms, expr_from, expr_at, label_at, labels_from, labels_at, ArmsForm, arms_forms, arms_from, FrontForm, front_forms, front_from, front_at, arms_at, names_from, names_at, bounds_at, initial_at, declaration_at, declared_from, declared_at, program_at}
+use Rattle.tree.specs.Trees.{name_at, types, operators, nil, wide, whole_at, place_at, ExprForm, number_form, binary_form, expr_forms, expr_from, expr_at, label_at, labels_from, labels_at, ArmsForm, arms_forms, arms_from, FrontForm, front_forms, front_from, front_at, arms_at, names_from, names_at, bounds_at, initial_at, declaration_at, declared_from, declared_at}
 use Rattle.tree.proofs.Decodes.{Local, Decode, decode_node, decode_same, sub_same, kid_same, All, none, ◌&◌, each, all_map}
 pub use Rattle.tree.proofs.Decodes.{Framed, same_less, same_trans, word_same, child_less, child_most, child_is, child_none, child_same, child_node_same, first_same, second_same, stepped}
 
@@ -395,9 +395,6 @@ bounds_same old new n i h l =
       word_same 0 (omega arith) old new n i h l,
     )
 
-pub bounds_nil : (p : List ℕ) → bounds_at p 0 ≡ single
-bounds_nil p = refl
-
 pub initial_same : Framed initial_at
 initial_same old new n i h l =
     rw (
@@ -406,9 +403,6 @@ initial_same old new n i h l =
       place_same old new n i h l,
       word_same 0 (omega arith) old new n i h l,
     )
-
-pub initial_nil : (p : List ℕ) → initial_at p 0 ≡ nothing
-initial_nil p = refl
 
 pub declaration_same : (t : List ℕ) → Framed (declaration_at t)
 declaration_same t old new n i h l =
@@ -448,12 +442,3 @@ declared_same t = decode_same (declared_decode t)
 pub declared_nil : (t p : List ℕ) → declared_at t p 0 ≡ []
 unfolding declared_at declared_from
 declared_nil t p = refl
-
-pub program_same : (t : List ℕ) → Framed (program_at t)
-unfolding program_at
-program_same t old new n i h l =
-    rw (
-      place_same old new n i h l,
-      first_same (declared_at t) (declared_same t) old new n i h l,
-      second_same (λ p i. front_at t p i done) (list_same t done) old new n i h l,
-    )

@@ -1,108 +1,64 @@
 -- The height of a node, from those of its children.
 use mathlib.Core.Path.{◌≡◌, refl, sym, ap, ◌∙◌}
 use mathlib.Core.List.{List}
-use Prim.Native.Nat.{ℕ, zero, suc, ◌+◌, ◌-◌, ◌≤◌, ◌<◌, max}
+use Prim.Native.Nat.{ℕ, suc, ◌+◌, ◌≤◌, ◌<◌, max}
 use native.Mathlib.Omega.{arith}
-use lib.ListN.{get_or, take, drop, get_or-eq_default}
-use lib.Seq.{get_or-take, get_or-append-add}
-use Rattle.paper.specs.Source.{Expr}
+use Rattle.std.proofs.Common.{◌⊎◌, inl, inr}
+use Rattle.paper.specs.declared.Ty.{Ty}
+use Rattle.paper.specs.declared.Op.{Op}
 use Rattle.paper.specs.Heights.{height}
-use Rattle.tree.specs.Nodes.{word_of, child_of}
-use Rattle.tree.specs.Trees.{ExprForm, expr_forms, expr_at, IsHeight}
-use Rattle.tree.proofs.Decodes.{All, none, ◌&◌, each, child_less}
-use Rattle.tree.proofs.Frames.{nil_form, expr_form, expr_nil}
-use Rattle.tree.proofs.Forms.{binary_form_lem}
+use Rattle.tree.specs.Nodes.{child_of}
+use Rattle.tree.specs.Trees.{IsHeight}
+use Rattle.tree.specs.Kinds.{operand, expression_of, IsExpression}
+use Rattle.tree.specs.declared.kinds.Expression.{Expression}
+use Rattle.tree.specs.declared.kinds.Expression.TheVariants.{Nothing, Number, Truth, Variable, Element, Minus, Complement, Brackets, Conversion, Binary}
+use Rattle.tree.proofs.Decodes.{child_less}
 
--- ---- forms
+module _ (p : List ℕ) (i : ℕ) where
+  by_view : (e : Expression) (r : ℕ) → IsExpression p i e → r ≤ i + 1 → ((t : List ℕ) → r ≡ height (expression_of p i t e)) → IsHeight p i r
+  by_view e r v l h = record { height = λ t. h t ∙ sym (ap height (v.tree t)); low = l }
 
-abbrev Leaf : ExprForm → Type 0
-Leaf f = (t p : List ℕ) (i : ℕ) (x y : Expr) → height (f t p i x y) ≡ 1
-
-leaves : All Leaf (take 7 expr_forms)
-unfolding expr_forms height
-leaves =
-    (λ t p i x y. refl)
-    & (λ t p i x y. refl)
-    & (λ t p i x y. refl)
-    & (λ t p i x y. refl)
-    & (λ t p i x y. refl)
-    & (λ t p i x y. refl)
-    & (λ t p i x y. refl)
-    & none
-
-nil_leaf : Leaf nil_form
-unfolding height
-nil_leaf t p i x y = refl
-
--- minus, NOT and a conversion, and not brackets, add one
-abbrev Adds : ExprForm → Type 0
-Adds f = (t p : List ℕ) (i : ℕ) (x y : Expr) → height (f t p i x y) ≡ suc (height x)
-
-adds : (v : ℕ) → v < 4 → (v ≡ 2 → ⊥) → Adds (get_or (drop 7 expr_forms) v nil_form)
-unfolding expr_forms height
-adds zero l e t p i x y = refl
-adds (suc zero) l e t p i x y = refl
-adds (suc (suc zero)) l e t p i x y = absurd (e refl)
-adds (suc (suc (suc zero))) l e t p i x y = refl
-adds (suc (suc (suc (suc v)))) l e t p i x y = absurd (omega arith)
-
--- ---- nodes
-
-pub nil_height : (p : List ℕ) → IsHeight p 0 1
-unfolding height
-nil_height p = record { height = λ t. sym (ap height (expr_nil t p)); low = omega arith }
-
-module _ (p : List ℕ) (i : ℕ) (some : 0 < i) where
-  abbrev w : ℕ
-  w = word_of p i 0
-
-  pub leaf_height : w < 7 → IsHeight p i 1
-  leaf_height l =
-      record {
-        height = λ t.
-            sym (ap height (expr_form t p i w _ some refl (sym (get_or-take 7 expr_forms w nil_form l)))
-            ∙ each Leaf nil_form nil_leaf (take 7 expr_forms) leaves w t p i _ _);
-        low = omega arith;
-      }
-
-  pub other_height : 24 < w → IsHeight p i 1
-  unfolding expr_forms height
-  other_height l =
-      record {
-        height = λ t. sym (ap height (expr_form t p i w nil_form some refl (get_or-eq_default expr_forms nil_form l)));
-        low = omega arith;
-      }
+  -- without operands
+  pub leaf_height : (e : Expression) → IsExpression p i e → (e ≡ Minus → ⊥) → (e ≡ Complement → ⊥) → (e ≡ Brackets → ⊥)
+      → ((u v : Ty) → e ≡ Conversion u v → ⊥) → ((o : Op) → e ≡ Binary o → ⊥) → IsHeight p i 1
+  unfolding height
+  leaf_height Nothing v m n b c o = by_view Nothing 1 v (omega arith) (λ t. refl)
+  leaf_height Number v m n b c o = by_view Number 1 v (omega arith) (λ t. refl)
+  leaf_height (Truth x) v m n b c o = by_view (Truth x) 1 v (omega arith) (λ t. refl)
+  leaf_height Variable v m n b c o = by_view Variable 1 v (omega arith) (λ t. refl)
+  leaf_height Element v m n b c o = by_view Element 1 v (omega arith) (λ t. refl)
+  leaf_height Minus v m n b c o = absurd (m refl)
+  leaf_height Complement v m n b c o = absurd (n refl)
+  leaf_height Brackets v m n b c o = absurd (b refl)
+  leaf_height (Conversion x y) v m n b c o = absurd (c x y refl)
+  leaf_height (Binary x) v m n b c o = absurd (o x refl)
 
   module _ (a : ℕ) (first : IsHeight p (child_of p i 1) a) where
-    pub brackets_height : w ≡ 9 → IsHeight p i a
-    unfolding expr_forms height
-    brackets_height e =
-        record {
-          height = λ t. first.height t ∙ sym (ap height (expr_form t p i 9 _ some e refl));
-          low = omega (arith, child_less p i 1 some, first.low);
-        }
-
-    pub unary_height : 7 ≤ w → w < 11 → (w ≡ 9 → ⊥) → IsHeight p i (a + 1)
-    unfolding expr_forms
-    unary_height l m e =
-        let v : w ≡ 7 + (w - 7) = omega arith in
-        record {
-          height = λ t.
-              let n : height (expr_at t p i) ≡ suc (height (expr_at t p (child_of p i 1))) =
-              ap height (expr_form t p i _ _ some v (get_or-append-add (take 7 expr_forms) (drop 7 expr_forms) (w - 7) nil_form))
-              ∙ adds (w - 7) (omega arith) (λ d. e (omega arith)) t p i _ _ in
-              omega (arith, first.height t);
-          low = omega (arith, child_less p i 1 some, first.low);
-        }
-
-    pub binary_height : (b r : ℕ) → 11 ≤ w → w ≤ 24 → IsHeight p (child_of p i 2) b → r ≡ max a b + 1 → IsHeight p i r
+    pub brackets_height : IsExpression p i Brackets → IsHeight p i a
     unfolding height
-    binary_height b r l m second e =
-        let o : w ≡ 11 + (w - 11) = omega arith in
-        record {
-          height = λ t.
-              let n : height (expr_at t p i) ≡ suc (max (height (expr_at t p (child_of p i 1))) (height (expr_at t p (child_of p i 2)))) =
-              ap height (expr_form t p i _ _ some o (binary_form_lem (w - 11) (omega arith))) in
-              rw (n, ← first.height t, ← second.height t) (omega arith);
-          low = omega (arith, child_less p i 1 some, child_less p i 2 some, first.low, second.low);
-        }
+    brackets_height v = by_view Brackets a v (omega (arith, child_less p i 1 v.some, first.low)) first.height
+
+    adds : (e : Expression) → 0 < i → IsExpression p i e → ((t : List ℕ) → height (expression_of p i t e) ≡ suc (height (operand p i t 1)))
+        → IsHeight p i (a + 1)
+    adds e some v h =
+        by_view e (a + 1) v (omega (arith, child_less p i 1 some, first.low)) (λ t. rw (h t, ← first.height t) (omega arith))
+
+    -- minus, NOT and a conversion
+    pub unary_height : (e : Expression) → IsExpression p i e
+        → (e ≡ Minus) ⊎ ((e ≡ Complement) ⊎ ((u : Ty) × (v : Ty) × (e ≡ Conversion u v))) → IsHeight p i (a + 1)
+    unfolding height
+    unary_height e v h =
+        elim h [
+          | inl q ↦ let w = rw q at v in adds Minus w.some w (λ t. refl)
+          | inr k ↦
+              elim k [
+                | inl q ↦ let w = rw q at v in adds Complement w.some w (λ t. refl)
+                | inr q ↦ let w = rw q.2 at v in adds (Conversion q.0 q.1) w.some w (λ t. refl)
+              ]
+        ]
+
+    pub binary_height : (o : Op) (b r : ℕ) → IsExpression p i (Binary o) → IsHeight p (child_of p i 2) b → r ≡ max a b + 1 → IsHeight p i r
+    unfolding height
+    binary_height o b r v second e =
+        by_view (Binary o) r v (omega (arith, child_less p i 1 v.some, child_less p i 2 v.some, first.low, second.low))
+        (λ t. rw (← first.height t, ← second.height t) (omega arith))

@@ -1,62 +1,40 @@
 -- Keys of names: their bytes counted from the last on, and what they tell of the names in the table.
 use mathlib.Core.Path.{◌≡◌, refl, sym, ap, ◌∙◌}
-use mathlib.Core.Bool.{Bool, true, false, cond, true≢false, false≢true}
+use mathlib.Core.Bool.{Bool, true, false, true≢false, false≢true}
 use mathlib.Core.List.{List, [], ◌∷◌, map}
-use Prim.Native.Nat.{ℕ, zero, suc, ◌+◌, ◌-◌, ◌*◌, ◌%◌, ◌≤◌, ◌<◌}
+use Prim.Native.Nat.{ℕ, ◌+◌, ◌*◌, ◌%◌, ◌≤◌, ◌<◌}
+use native.Mathlib.Numerals.{add-one}
 use native.Mathlib.Omega.{arith}
 use borrow.Author.Tests.{eqb-true, eqb-false, eq-eqb, ne_eqb}
 use lib.Dec.{eqb}
 use lib.ListN.{length, get_or, take, drop}
-use lib.Seq.{get_or-drop}
-use Rattle.paper.specs.Words.{between, in_run, run_of, capital, same_bytes}
+use lib.Seq.{drop-cons, drop-length}
+use Rattle.paper.specs.Words.{in_run, run_of, capital, same_bytes}
 use Rattle.paper.specs.Source.{Name}
-use Rattle.words.specs.Denoted.{folded, name_at, HasLength}
+use Rattle.words.specs.Denoted.{name_at}
 use Rattle.words.proofs.Truths.{both}
-use Rattle.words.proofs.Runs.{in_range, part_cons, part_none}
+use Rattle.words.proofs.Keys.{same_letter}
 use Rattle.words.proofs.Spellings.{same_run}
 use Rattle.tree.specs.Nodes.{word_of}
 use Rattle.variables.specs.Table.{key_of, name_in}
 
 -- ---- keys
 
--- a byte and its capital share the five bits
-case_aside : (c : ℕ) → capital c % 32 ≡ c % 32
-case_aside c = go (between 97 122 c) refl
-  where
-    go : (b : Bool) → between 97 122 c ≡ b → cond b (c - 32) c % 32 ≡ c % 32
-    go true h = omega (arith, in_range 97 122 c h)
-    go false h = refl
+-- of the bytes of a name from a place on
+module _ (s : List ℕ) where
+  abbrev pub key_from : ℕ → ℕ
+  key_from i = key_of (map capital (drop i s))
 
-pub key_none : (t : List ℕ) (e : ℕ) → 0 ≡ key_of (folded t e e)
-unfolding key_of
-key_none t e = rw (part_none t e)
+  pub key_none : 0 ≡ key_from (length s)
+  unfolding key_of
+  key_none = rw drop-length
 
--- the byte before those counted
-pub key_before : (t : List ℕ) (j i e : ℕ) → i ≡ j + 1 → i ≤ e → e ≤ length t
-    → key_of (folded t j e) ≡ (get_or t j 0 % 32 + 31 * key_of (folded t i e)) % 65536
-unfolding key_of
-key_before t j i e q h k = rw (part_cons t j e (omega arith) k, q, case_aside (get_or t j 0))
-
--- ---- the bytes of a name whose number is known
-
--- the first f bytes of a run that has n, or more where f is n
-run_part : (n f : ℕ) (s : List ℕ) → n ≤ f → ((i : ℕ) → i < n → in_run (get_or s i 0) ≡ true) → (n < f → in_run (get_or s n 0) ≡ false)
-    → take f (run_of s) ≡ take n s
-unfolding run_of
-run_part zero zero s l h e = refl
-run_part zero (suc f) [] l h e = refl
-run_part zero (suc f) (c ∷ s) l h e = rw (e (omega arith), run_of, take)
-run_part (suc n) zero s l h e = absurd (omega arith)
-run_part (suc n) (suc f) [] l h e = absurd (false≢true (h 0 (omega arith)))
-run_part (suc n) (suc f) (c ∷ s) l h e =
-    rw (h 0 (omega arith), run_of, run_part n f s (omega arith) (λ i b. h (suc i) (omega arith)) (λ b. e (omega arith)))
-
-pub name_part : (t : List ℕ) (a n : ℕ) → HasLength t a n → folded t a (a + n) ≡ name_at t a
-name_part t a n s =
-    let q : a + n - a ≡ n = omega arith in
-    rw q
-    (ap (map capital)
-    (sym (run_part n 24 (drop a t) s.most (λ i l. rw get_or-drop (s.all i l)) (λ l. rw get_or-drop (s.behind l)))))
+  -- the byte before those counted
+  pub key_before : (j i : ℕ) → i ≡ j + 1 → i ≤ length s → key_from j ≡ (get_or s j 0 % 32 + 31 * key_from i) % 65536
+  unfolding key_of
+  key_before j i q h =
+      let l : j < length s = omega arith in
+      rw (drop-cons s j 0 l, q, add-one j, same_letter (get_or s j 0))
 
 -- ---- names in the table
 

@@ -1,5 +1,5 @@
 -- What the table of variables holds: four words a variable, the place of its name, the node of its declaration, its first cell, its name's key.
-use Rattle.std.specs.Prelude.{◌≡◌, cond, List, [], ◌∷◌, ◌++◌, ℕ, zero, suc, ◌+◌, ◌*◌, ◌/◌, ◌%◌, ◌≤◌, ◌<◌, eqb, leb, length, get_or}
+use Rattle.std.specs.Prelude.{◌≡◌, cond, List, [], ◌∷◌, ◌++◌, ℕ, zero, suc, ◌+◌, ◌*◌, ◌/◌, ◌%◌, ◌<◌, eqb, leb, length, get_or, Option, None, Some}
 use Rattle.std.proofs.Math.Option.{none, some}
 use Rattle.paper.specs.declared.Ty.{Ty}
 use Rattle.paper.specs.declared.Ty.TheVariants.{Bool as BOOL}
@@ -68,16 +68,23 @@ listed_to t p tab (suc n) = listed_to t p tab n ++ record { declared = entry_at 
 unfoldable pub listed_in : List ℕ → List ℕ → List ℕ → List Variable
 listed_in t p tab = listed_to t p tab (length tab / 4)
 
--- the number of the variable of a name, or how many there are
-pub record Finds (t tab : List ℕ) (place r : ℕ) : Type 0 where
-  pub most : r ≤ length tab / 4
-  pub found : r < length tab / 4 → (p : List ℕ)
+-- the variable r of a name: among all in printed order, and in the table as it stands
+pub record Found (t tab : List ℕ) (place r : ℕ) : Type 0 where
+  pub inside : r < length tab / 4
+  pub declared : (p : List ℕ)
       → (m : ℕ) × (find (name_at t place) (variables_in t p tab) ≡ some (record { declared = entry_at t p tab r; first = m }))
-  pub missing : length tab / 4 ≤ r → (p : List ℕ) → find (name_at t place) (variables_in t p tab) ≡ none
-  -- the same in the table as it stands
-  pub listed : r < length tab / 4 → (p : List ℕ)
+  pub listed : (p : List ℕ)
       → find (name_at t place) (listed_in t p tab) ≡ some (record { declared = entry_at t p tab r; first = word_of tab r 2 })
-  pub unlisted : length tab / 4 ≤ r → (p : List ℕ) → find (name_at t place) (listed_in t p tab) ≡ none
+
+-- no variable has the name
+pub record Missing (t tab : List ℕ) (place : ℕ) : Type 0 where
+  pub declared : (p : List ℕ) → find (name_at t place) (variables_in t p tab) ≡ none
+  pub listed : (p : List ℕ) → find (name_at t place) (listed_in t p tab) ≡ none
+
+-- the number of the variable of a name, if there is one
+abbrev pub Seeks : List ℕ → List ℕ → ℕ → Option ℕ → Type 0
+Seeks t tab place None = Missing t tab place
+Seeks t tab place (Some r) = Found t tab place r
 
 -- ---- names by their places, the last first
 

@@ -9,10 +9,10 @@ use lib.Dec.{eqb}
 use lib.ListN.{length, get_or, drop, drop_of_length-le}
 use Rattle.paper.specs.declared.Why.TheVariants.{NoWord}
 use Rattle.paper.specs.Refusals.{Answer, refused, given, ◌>>=◌}
+use Rattle.std.specs.Prelude.{Ok, Err}
 use Rattle.paper.specs.Words as W
 use Rattle.paper.specs.Words.{Token, piece_of, words_from, words_of}
 use Rattle.words.specs.declared.Word.{Word}
-use Rattle.words.specs.declared.Gap.{Gap}
 use Rattle.words.specs.Denoted.{folded, denoted, words_at, Skips, IsPiece, IsWordAt, answered, classed, IsWord, IsTold}
 use Rattle.words.proofs.Gaps.{words_word, words_bad}
 use Rattle.words.proofs.Keys.{some_class}
@@ -49,46 +49,31 @@ words_cut t at r h q = go (eqb r.class 255) refl
 
 -- ---- the next word, by what blanks and comments leave
 
-module _ (t : List ℕ) (at : ℕ) (g : Gap) (s : Skips t at g) where
-  pub open_next : g.open ≡ true → IsWord t at (bad_at g.at)
-  open_next o =
-      record {
-        from = s.from;
-        on = omega arith;
-        to = s.to;
-        moves = λ q. absurd (true≢false q);
-        words = rw o at s.behind;
-        again = λ q. absurd (true≢false q);
-        last = λ q. absurd (false≢true q);
-        known = λ q. absurd (true≢false q);
-      }
-
-  pub word_next : g.open ≡ false → g.at < length t → (r : Word) → IsWordAt t g.at r → IsWord t at r
-  word_next o h r w =
-      let b = rw o at s.behind in
-      let p = w (b.1 h).0 (b.1 h).1 in
+module _ (t : List ℕ) (at i : ℕ) where
+  pub word_next : Skips t at (Ok i) → i < length t → (r : Word) → IsWordAt t i r → IsWord t at r
+  word_next s h r w =
+      let p = w (s.there.1 h).0 (s.there.1 h).1 in
       record {
         from = omega (arith, s.from, p.here);
         on = omega (arith, p.from, p.here);
         to = p.to;
         moves = λ q _. omega (arith, p.moves q, p.here);
-        words = b.0 ∙ words_cut t g.at r h p;
-        again = λ _. ap (words_at t) p.here ∙ words_cut t g.at r h p;
+        words = s.there.0 ∙ words_cut t i r h p;
+        again = λ _. ap (words_at t) p.here ∙ words_cut t i r h p;
         last = λ q. absurd (omega (arith, p.some_word, eqb-true r.class 0 q));
         known = p.known;
       }
 
-  pub ending_next : g.open ≡ false → length t ≤ g.at → IsWord t at (record { class = 0; at = g.at; end = g.at; value = 0 })
+  pub ending_next : Skips t at (Ok i) → length t ≤ i → IsWord t at (record { class = 0; at = i; end = i; value = 0 })
   unfolding words_from
-  ending_next o h =
-      let b = rw o at s.behind in
-      let e : g.at ≡ length t = omega (arith, s.to) in
+  ending_next s h =
+      let e : i ≡ length t = omega (arith, s.to) in
       record {
         from = s.from;
         on = omega arith;
         to = s.to;
         moves = λ _ q. absurd (true≢false q);
-        words = b.0 ∙ rw (drop_of_length-le t h, e);
+        words = s.there.0 ∙ rw (drop_of_length-le t h, e);
         again = λ _. rw (drop_of_length-le t h, e);
         last = λ _. e;
         known = λ _. omega arith;

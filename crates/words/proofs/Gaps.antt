@@ -1,14 +1,16 @@
 -- Blanks and comments: where a comment ends, and the words behind them.
 use mathlib.Core.Path.{◌≡◌, refl, sym, ap, subst, ◌∙◌}
 use mathlib.Core.Bool.{Bool, true, false, ◌&&◌, and-false, false≢true}
-use mathlib.Core.Option.{Option, none, some}
+use mathlib.Core.Option as M
+use mathlib.Core.Option.{none, some}
+use Rattle.std.specs.Prelude.{Option, Some, None}
 use mathlib.Core.List.{List, [], ◌∷◌}
 use Prim.Native.Nat.{ℕ, zero, suc, ◌+◌, ◌≤◌, ◌<◌}
 use native.Mathlib.Numerals.{add-one}
 use native.Mathlib.Omega.{arith}
-use borrow.Author.Tests.{eq-eqb, eqb-true}
-use lib.Dec.{eqb}
-use lib.ListN.{length, get_or, drop, length-drop}
+use borrow.Author.Tests.{eq-eqb, eqb-true, ltb-true, ltb-false}
+use lib.Dec.{eqb, ltb}
+use lib.ListN.{length, get_or, drop, length-drop, get_or-eq_default}
 use lib.Seq.{drop-cons, drop-drop, get_or-drop}
 use Rattle.paper.specs.declared.Why.TheVariants.{NoWord}
 use Rattle.paper.specs.Refusals.{refused, given, ◌>>=◌}
@@ -19,13 +21,13 @@ use Rattle.words.proofs.Truths.{both}
 -- ---- two bytes at a place
 
 -- a text that begins with two bytes has them, and the other way round
-begun : (a b : ℕ) (s : List ℕ) → begins (a ∷ b ∷ []) s ≡ true → (1 < length s) × (get_or s 0 0 ≡ a) × (get_or s 1 0 ≡ b)
+begun : (a b : ℕ) (s : List ℕ) → begins (a ∷ b ∷ []) s ≡ true → (get_or s 0 0 ≡ a) × (get_or s 1 0 ≡ b)
 unfolding begins
 begun a b [] h = absurd (false≢true h)
 begun a b (x ∷ []) h = absurd (false≢true (both (eqb a x) false h).1)
 begun a b (x ∷ y ∷ s) h =
     let f = both (eqb a x) (eqb b y && true) h in
-    (omega arith, sym (eqb-true a x f.0), sym (eqb-true b y (both (eqb b y) true f.1).0))
+    (sym (eqb-true a x f.0), sym (eqb-true b y (both (eqb b y) true f.1).0))
 
 begin : (a b : ℕ) (s : List ℕ) → 1 < length s → get_or s 0 0 ≡ a → get_or s 1 0 ≡ b → begins (a ∷ b ∷ []) s ≡ true
 unfolding begins
@@ -33,15 +35,24 @@ begin a b [] l p q = absurd (omega arith)
 begin a b (x ∷ []) l p q = absurd (omega arith)
 begin a b (x ∷ y ∷ s) l p q = rw (eq-eqb a x (sym p), eq-eqb b y (sym q))
 
+-- what stands in a text stands before its end
+stands : (t : List ℕ) (i b : ℕ) → get_or t i 0 ≡ suc b → i < length t
+stands t i b h = go (ltb i (length t)) refl
+  where
+    go : (l : Bool) → ltb i (length t) ≡ l → i < length t
+    go true l = ltb-true i (length t) l
+    go false l = absurd (omega (arith, get_or-eq_default t 0 (ltb-false i (length t) l)))
+
 -- so too at a place
 module _ (t : List ℕ) (i a b : ℕ) where
-  two_stand : i + 1 < length t → get_or t i 0 ≡ a → get_or t (i + 1) 0 ≡ b → begins (a ∷ b ∷ []) (drop i t) ≡ true
-  two_stand l p q =
-      begin a b (drop i t) (simp length-drop (omega arith))
+  two_stand : get_or t i 0 ≡ a → get_or t (i + 1) 0 ≡ suc b → begins (a ∷ suc b ∷ []) (drop i t) ≡ true
+  two_stand p q =
+      let l : i + 1 < length t = stands t (i + 1) b q in
+      begin a (suc b) (drop i t) (simp length-drop (omega arith))
       (get_or-drop i t 0 0 ∙ ap (λ (k : ℕ). get_or t k 0) (omega arith) ∙ p)
       (get_or-drop i t 1 0 ∙ q)
 
-  two_miss : (i + 1 < length t → get_or t i 0 ≡ a → get_or t (i + 1) 0 ≡ b → ⊥) → begins (a ∷ b ∷ []) (drop i t) ≡ false
+  two_miss : (get_or t i 0 ≡ a → get_or t (i + 1) 0 ≡ b → ⊥) → begins (a ∷ b ∷ []) (drop i t) ≡ false
   two_miss no-two = go (begins (a ∷ b ∷ []) (drop i t)) refl
     where
       go : (f : Bool) → begins (a ∷ b ∷ []) (drop i t) ≡ f → f ≡ false
@@ -50,19 +61,18 @@ module _ (t : List ℕ) (i a b : ℕ) where
           let g = begun a b (drop i t) e in
           absurd
           (no-two
-          (omega (arith, simp length-drop at g.0))
-          (ap (λ (k : ℕ). get_or t k 0) (omega arith) ∙ sym (get_or-drop i t 0 0) ∙ g.1)
-          (sym (get_or-drop i t 1 0) ∙ g.2))
+          (ap (λ (k : ℕ). get_or t k 0) (omega arith) ∙ sym (get_or-drop i t 0 0) ∙ g.0)
+          (sym (get_or-drop i t 1 0) ∙ g.1))
 
 -- ---- the end of a comment
 
 -- one byte more in front of a comment's end
-abbrev later : Option ℕ → Option ℕ
+abbrev later : M.Option ℕ → M.Option ℕ
 later o = elim o [ none ↦ none | some n ↦ some (suc n) ]
 
 -- `CommentEnds`, of an end that is known
-abbrev Ends : List ℕ → ℕ → ℕ → Option ℕ → Type 0
-Ends t at r o = elim o [ none ↦ r ≡ length t + 1 | some n ↦ (r ≡ at + n) × (r ≤ length t) ]
+abbrev Ends : List ℕ → ℕ → Option ℕ → M.Option ℕ → Type 0
+Ends t at r o = elim o [ none ↦ r ≡ None | some n ↦ (r ≡ Some (at + n)) × (at + n ≤ length t) ]
 
 closed_here : (c : ℕ) (s : List ℕ) → begins (bytes "*)") (c ∷ s) ≡ true → closed (c ∷ s) ≡ some 2
 unfolding closed
@@ -79,30 +89,32 @@ closed_short (c ∷ []) h = closed_more c [] (and-false (eqb 42 c))
 closed_short (c ∷ d ∷ s) h = absurd (omega arith)
 
 -- a comment ends behind the `*)` at its inside's start
-pub comment_here : (t : List ℕ) (i : ℕ) → i + 1 < length t → get_or t i 0 ≡ 42 → get_or t (i + 1) 0 ≡ 41 → CommentEnds t i (i + 2)
+pub comment_here : (t : List ℕ) (i j : ℕ) → j ≡ i + 1 → get_or t i 0 ≡ 42 → get_or t j 0 ≡ 41 → CommentEnds t i (Some (j + 1))
 unfolding bytes
-comment_here t i l p q =
-    let less : i < length t = omega arith in
-    let e : drop i t ≡ get_or t i 0 ∷ drop (suc i) t = drop-cons t i 0 less in
-    subst (Ends t i (i + 2)) (sym (ap closed e ∙ closed_here _ _ (rw e at (two_stand t i 42 41 l p q)))) (refl, omega arith)
+comment_here t i j n p q =
+    let q : get_or t (i + 1) 0 ≡ 41 = rw n at q in
+    let k : j + 1 ≡ i + 2 = omega arith in
+    let l : i + 1 < length t = stands t (i + 1) 40 q in
+    let e : drop i t ≡ get_or t i 0 ∷ drop (suc i) t = drop-cons t i 0 (omega arith) in
+    rw k (subst (Ends t i (Some (i + 2))) (sym (ap closed e ∙ closed_here _ _ (rw e at (two_stand t i 42 40 p q)))) (refl, omega arith))
 
 -- where none stands there, it ends where the rest does
-pub comment_more : (t : List ℕ) (i r : ℕ) → i < length t → (get_or t i 0 ≡ 42 → get_or t (i + 1) 0 ≡ 41 → ⊥) → CommentEnds t (i + 1) r → CommentEnds t i r
+pub comment_more : (t : List ℕ) (i : ℕ) (r : Option ℕ) → i < length t → (get_or t i 0 ≡ 42 → get_or t (i + 1) 0 ≡ 41 → ⊥) → CommentEnds t (i + 1) r → CommentEnds t i r
 unfolding bytes
 comment_more t i r l no_end k =
     let e : drop i t ≡ get_or t i 0 ∷ drop (i + 1) t = drop-cons t i 0 l ∙ ap (λ (n : ℕ). get_or t i 0 ∷ drop n t) (sym (add-one i)) in
-    let h = two_miss t i 42 41 (λ m. no_end) in
+    let h = two_miss t i 42 41 no_end in
     subst (Ends t i r) (sym (ap closed e ∙ closed_more _ _ (rw e at h))) (go (closed (drop (i + 1) t)) k)
   where
-    go : (o : Option ℕ) → Ends t (i + 1) r o → Ends t i r (later o)
-    go none k = k
-    go (some n) k = omega arith
+    go : (o : M.Option ℕ) → Ends t (i + 1) r o → Ends t i r (later o)
+    go none h = h
+    go (some n) h = let e : i + 1 + n ≡ i + suc n = omega arith in rw e at h
 
 -- one byte is no end
-pub comment_none : (t : List ℕ) (i : ℕ) → length t ≤ i + 1 → CommentEnds t i (length t + 1)
+pub comment_none : (t : List ℕ) (i : ℕ) → length t ≤ i + 1 → CommentEnds t i None
 comment_none t i h =
     let l : length (drop i t) ≤ 1 = simp length-drop (omega arith) in
-    subst (Ends t i (length t + 1)) (sym (closed_short (drop i t) l)) refl
+    subst (Ends t i None) (sym (closed_short (drop i t) l)) refl
 
 -- ---- the words behind skipped bytes
 
@@ -162,36 +174,39 @@ module _ (t : List ℕ) (i : ℕ) (l : i < length t) where
   words_blank h = words_gap 0 (omega arith) (piece_blank (get_or t i 0) (drop (suc i) t) h)
 
 -- the words at a comment whose end is sought from behind its `(*` on
-module _ (t : List ℕ) (i e : ℕ) (l : i + 1 < length t) (p : get_or t i 0 ≡ 40) (q : get_or t (i + 1) 0 ≡ 42) (ends : CommentEnds t (i + 2) e) where
+module _ (t : List ℕ) (i : ℕ) (p : get_or t i 0 ≡ 40) (q : get_or t (i + 1) 0 ≡ 42) where
   less : i < length t
-  less = omega arith
+  less = stands t i 39 p
 
   opens : begins (bytes "(*") (get_or t i 0 ∷ drop (suc i) t) ≡ true
   unfolding bytes
-  opens = rw (drop-cons t i 0 less) at (two_stand t i 40 42 l p q)
+  opens = rw (drop-cons t i 0 less) at (two_stand t i 40 41 p q)
 
   inside : drop 1 (drop (suc i) t) ≡ drop (i + 2) t
   inside = let n : suc i + 1 ≡ i + 2 = omega arith in drop-drop 1 (suc i) t ∙ ap (λ (k : ℕ). drop k t) n
 
   -- go on behind it
-  pub words_comment : e ≤ length t → (i + 2 ≤ e) × (words_at t i ≡ words_at t e)
-  words_comment fits = go (closed (drop (i + 2) t)) refl ends
+  pub words_comment : (e : ℕ) → CommentEnds t (i + 2) (Some e) → (i + 2 ≤ e) × (e ≤ length t) × (words_at t i ≡ words_at t e)
+  words_comment e ends = go (closed (drop (i + 2) t)) refl ends
     where
-      go : (o : Option ℕ) → closed (drop (i + 2) t) ≡ o → Ends t (i + 2) e o → (i + 2 ≤ e) × (words_at t i ≡ words_at t e)
-      go none h k = absurd (omega arith)
+      go : (o : M.Option ℕ) → closed (drop (i + 2) t) ≡ o → Ends t (i + 2) (Some e) o → (i + 2 ≤ e) × (e ≤ length t) × (words_at t i ≡ words_at t e)
+      go none h k = let wrong : Some e ≡ None = k in absurd (cc)
       go (some n) h k =
+          let same : Some e ≡ Some (i + 2 + n) = k.0 in
+          let at_end : e ≡ i + 2 + n = cc in
+          let fits : i + 2 + n ≤ length t = k.1 in
           let to : i + suc (suc n) ≡ e = omega arith in
-          (omega arith, words_gap t i less (suc n) (omega arith) (piece_comment _ n _ opens (ap closed inside ∙ h)) ∙ ap (words_at t) to)
+          (omega arith, omega arith, words_gap t i less (suc n) (omega arith) (piece_comment _ n _ opens (ap closed inside ∙ h)) ∙ ap (words_at t) to)
 
   -- are none where it is open
-  pub words_open : length t < e → words_at t i ≡ refused NoWord i
-  words_open beyond = go (closed (drop (i + 2) t)) refl ends
+  pub words_open : CommentEnds t (i + 2) None → words_at t i ≡ refused NoWord i
+  words_open ends = go (closed (drop (i + 2) t)) refl ends
     where
-      go : (o : Option ℕ) → closed (drop (i + 2) t) ≡ o → Ends t (i + 2) e o → words_at t i ≡ refused NoWord i
+      go : (o : M.Option ℕ) → closed (drop (i + 2) t) ≡ o → Ends t (i + 2) None o → words_at t i ≡ refused NoWord i
       go none h k = words_bad t i less (piece_open _ _ opens (ap closed inside ∙ h))
-      go (some n) h k = absurd (omega arith)
+      go (some n) h k = let wrong : None ≡ Some (i + 2 + n) = k.0 in absurd (cc)
 
 -- no comment starts where its two bytes don't stand
-pub no_comment : (t : List ℕ) (i : ℕ) → (i + 1 < length t → get_or t i 0 ≡ 40 → get_or t (i + 1) 0 ≡ 42 → ⊥) → begins (bytes "(*") (drop i t) ≡ false
+pub no_comment : (t : List ℕ) (i : ℕ) → (get_or t i 0 ≡ 40 → get_or t (i + 1) 0 ≡ 42 → ⊥) → begins (bytes "(*") (drop i t) ≡ false
 unfolding bytes
 no_comment t i h = two_miss t i 40 42 h

@@ -1,19 +1,25 @@
 -- The keys of runs: a reserved word's is no other run's, and a run without such a key is a name.
 use mathlib.Core.Path.{◌≡◌, refl, sym, ap, subst, ◌∙◌}
 use mathlib.Core.Bool.{Bool, true, false, cond, ◌||◌, true≢false, false≢true}
-use mathlib.Core.List.{List, [], ◌∷◌, map}
+use mathlib.Core.List.{List, [], ◌∷◌, map, reverse}
 use mathlib.Core.Logic.{◌⊎◌, inl, inr}
 use Prim.Native.Nat.{ℕ, zero, suc, ◌+◌, ◌-◌, ◌*◌, ◌%◌, ◌≤◌, ◌<◌}
 use native.Mathlib.Omega.{arith}
-use borrow.Author.Tests.{ltb-true, lt-ltb, le-ltb, leb-true, eqb-true, ne_eqb}
+use borrow.Author.Tests.{ltb-true, leb-true, eqb-true, ne_eqb}
 use lib.Dec.{eqb, ltb, leb}
-use lib.ListN.{length, get_or, get_or-map}
+use native.Mathlib.Numerals.{add-one}
+use lib.ListN.{length, get_or, drop, get_or-map, length-map, length-drop}
+use lib.Seq.{drop-cons, drop-length}
+use Rattle.std.specs.Prelude.{Some, None}
+use Rattle.std.proofs.lemmas.Grind.{get_or_default_zero}
+use Rattle.std.proofs.lemmas.List.{get_or-reverse}
+use Rattle.std.proofs.Math.ListN.{length-reverse}
 use Rattle.paper.specs.Words.{Word, Spelled, name, bytes, between, is_underscore, capital, same_bytes, reserved, type_name, conversion_name, look_up}
 use Rattle.words.specs.Keys.{key_digit, key_of, keys, keyword_keys, operand_keys, singly, Numbered, form_of, forms, Excludes}
-use Rattle.words.specs.Denoted.{folded, denoted, IsRunClass}
+use Rattle.words.specs.Denoted.{denoted, IsRunClass}
 use Rattle.words.proofs.Truths.{both, all, all_at, among, none_among}
-use Rattle.words.proofs.Runs.{part_cons, part_none, in_range}
-use Rattle.words.proofs.Spellings.{no_entry, reserved_length, reserved_entry, class_word, folded_length}
+use Rattle.words.proofs.Parts.{in_range}
+use Rattle.words.proofs.Spellings.{no_entry, reserved_length, reserved_entry, class_word}
 
 -- ---- digits
 
@@ -73,19 +79,32 @@ key_below zero (c ∷ s) h = absurd (omega arith)
 key_below (suc n) [] h = omega (arith, key_below n [] (omega arith))
 key_below (suc n) (c ∷ s) h = omega (arith, (a_digit c).high, key_below n s (omega arith))
 
-pub key_none : (t : List ℕ) (e : ℕ) → 0 ≡ key_of (folded t e e)
-unfolding key_of
-key_none t e = rw (part_none t e)
+-- of the bytes of a run from a place on
+module _ (s : List ℕ) where
+  abbrev pub key_from : ℕ → ℕ
+  key_from i = key_of (map capital (drop i s))
 
-module _ (t : List ℕ) (i e : ℕ) (he : e ≤ length t) where
+  pub key_none : 0 ≡ key_from (length s)
+  unfolding key_of
+  key_none = rw drop-length
+
   -- one byte more can be counted, where twelve are
-  pub key_fits : e - i ≤ 12 → key_of (folded t i e) < 353814783205469041
-  key_fits h = key_below 12 (folded t i e) (omega (arith, folded_length t i e he))
+  pub key_fits : (i : ℕ) → length s - i ≤ 12 → key_from i < 353814783205469041
+  key_fits i h = key_below 12 (map capital (drop i s)) (simp (length-map, length-drop) h)
 
   -- the byte before them
-  pub key_before : (j : ℕ) → i ≡ j + 1 → i ≤ e → key_of (folded t j e) ≡ key_of (folded t i e) * 29 + key_digit (capital (get_or t j 0))
+  pub key_before : (j i : ℕ) → i ≡ j + 1 → i ≤ length s → key_from j ≡ key_from i * 29 + key_digit (capital (get_or s j 0))
   unfolding key_of
-  key_before j q h = rw (part_cons t j e (omega arith) he, q) (omega arith)
+  key_before j i q h =
+      let l : j < length s = omega arith in
+      rw (drop-cons s j 0 l, q, add-one j) (omega arith)
+
+  -- the byte that comes next from the back
+  pub from_back : (n x : ℕ) → (n < length (reverse s)) × (x ≡ get_or (reverse s) n x) → (n < length s) × (x ≡ get_or s (length s - (n + 1)) 0)
+  from_back n x h =
+      let l : n < length s = omega (arith, length-reverse s) in
+      let k : length s - 1 - n ≡ length s - (n + 1) = omega arith in
+      (l, h.1 ∙ get_or-reverse s n x l ∙ rw k (get_or_default_zero s (length s - (n + 1)) x (omega arith)))
 
 -- ---- the list of reserved words
 
@@ -147,20 +166,19 @@ unfolding reserved bytes type_name conversion_name
 reserved_forms = refl
 
 -- the case of a letter doesn't count
-same_letter : (c : ℕ) → capital c % 32 ≡ c % 32
+pub same_letter : (c : ℕ) → capital c % 32 ≡ c % 32
 same_letter c = go (between 97 122 c) refl
   where
     go : (b : Bool) → between 97 122 c ≡ b → cond b (c - 32) c % 32 ≡ c % 32
     go true h = omega (arith, in_range 97 122 c h)
     go false h = refl
 
-module _ (t : List ℕ) (a e : ℕ) (h : a < e) (l : e ≤ length t) where
-  form : form_of (folded t a e) ≡ (e - a) * 32 + get_or t a 0 % 32
-  form = rw (folded_length t a e l, part_cons t a e h l, same_letter (get_or t a 0))
-
-  -- a run with the length and the first letter of none
-  pub other_form : (b : Bool) → Excludes forms ((e - a) * 32 + get_or t a 0 % 32) b → b ≡ false → IsRunClass (folded t a e) 1
-  other_form b n q = is_name_lem (λ s. among forms (form_of s)) (folded t a e) reserved_forms (rw form (none_among forms _ (Unit {0}) (subst (Excludes forms _) q n)))
+-- a run with the length and the first letter of none
+pub other_form : (s : List ℕ) → 0 < length s → (b : Bool) → Excludes forms (length s * 32 + get_or s 0 0 % 32) b → b ≡ false → IsRunClass (map capital s) 1
+other_form [] h b n q = absurd (omega arith)
+other_form (c ∷ s) h b n q =
+    let form : form_of (map capital (c ∷ s)) ≡ suc (length s) * 32 + c % 32 = rw (length-map, same_letter c) in
+    is_name_lem (λ r. among forms (form_of r)) _ reserved_forms (rw form (none_among forms _ (Unit {0}) (subst (Excludes forms _) q n)))
 
 abbrev some_key : List ℕ → Bool
 some_key s = among (singly keyword_keys) (key_of s) || among (singly operand_keys) (key_of s)
@@ -170,19 +188,18 @@ unfolding key_of reserved bytes type_name conversion_name
 reserved_some = refl
 
 -- a run with none of the keys
-pub other_name :
-    (s : List ℕ) {key : ℕ} (i j : ℕ) → key ≡ key_of s → Numbered keyword_keys key i → 51 ≤ i → Numbered operand_keys key j → 51 ≤ j → IsRunClass s 1
-other_name s {key} i j q m hi n hj =
-    is_name_lem some_key s reserved_some
-    (rw (← q, none_among (singly keyword_keys) key (Unit {0}) (rw (le-ltb i 51 hi) at m), none_among (singly operand_keys) key (Unit {0}) (rw (le-ltb j 51 hj) at n)))
+pub other_name : (s : List ℕ) {key : ℕ} → key ≡ key_of s → Numbered keyword_keys key None → Numbered operand_keys key None → IsRunClass s 1
+other_name s {key} q m n =
+    is_name_lem some_key s reserved_some (rw (← q, none_among (singly keyword_keys) key (Unit {0}) m, none_among (singly operand_keys) key (Unit {0}) n))
 
 -- a run with the key number i
-pub reserved_word : (ks s : List ℕ) {key : ℕ} (i : ℕ) → key ≡ key_of s → Numbered ks key i → i < 51 → IsRunClass s (3 + i)
+pub reserved_word : (ks s : List ℕ) {key : ℕ} (i : ℕ) → key ≡ key_of s → Numbered ks key (Some i) → IsRunClass s (3 + i)
 unfolding key_of
-reserved_word ks s i q n h =
+reserved_word ks s i q n =
+    let h = n.0 in
     let l : i < length reserved = omega (arith, reserved_length) in
     let e = get_or reserved i no_entry in
-    let k : key_of s ≡ keyed e = sym q ∙ (rw (lt-ltb i 51 h) at n) ∙ sym (ap (λ m. get_or m i 0) reserved_keys) ∙ get_or-map keyed reserved i no_entry in
+    let k : key_of s ≡ keyed e = sym q ∙ n.1 ∙ sym (ap (λ m. get_or m i 0) reserved_keys) ∙ get_or-map keyed reserved i no_entry in
     let p : s ≡ e.spelling = key_same s e.spelling (all_at (λ (x : Spelled). plain x.spelling) reserved i no_entry reserved_plain l) k in
     let f : look_up reserved e.spelling (name s) ≡ e.word = same_at _ _ reserved i no_entry (reserved_found (name s)) l in
     record {

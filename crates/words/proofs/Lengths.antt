@@ -1,14 +1,16 @@
 -- Names of a known number of bytes compared.
 use mathlib.Core.Path.{◌≡◌, refl, sym, ap, ◌∙◌}
 use mathlib.Core.Bool.{Bool, true, false, false≢true, not}
-use mathlib.Core.List.{List}
-use Prim.Native.Nat.{ℕ, zero, suc, ◌+◌, ◌-◌, ◌≤◌, ◌<◌}
+use mathlib.Core.List.{List, [], ◌∷◌}
+use Prim.Native.Nat.{ℕ, zero, suc, ◌+◌, ◌-◌, ◌≤◌, ◌<◌, min}
 use native.Mathlib.Omega.{arith}
 use borrow.Author.Tests.{eq-eqb, eqb-true, eqb-false}
 use lib.Dec.{eqb}
-use lib.ListN.{length, get_or, get_or-eq_default}
-use Rattle.paper.specs.Words.{in_run, capital, same_bytes}
-use Rattle.words.specs.Denoted.{name_at, rest_at, HasLength}
+use lib.ListN.{length, get_or, take, drop, get_or-eq_default, length-drop}
+use lib.Seq.{get_or-drop}
+use Rattle.std.proofs.lemmas.List.{drop_min}
+use Rattle.paper.specs.Words.{in_run, run_of, capital, same_bytes}
+use Rattle.words.specs.Denoted.{part, spelled_at, name_at, rest_at, HasLength}
 use Rattle.words.proofs.Spellings.{same_run, rest_same, rest_apart, rest_none_yet, names_apart}
 
 module _ (t : List ℕ) (a b : ℕ) where
@@ -79,11 +81,56 @@ module _ (t : List ℕ) (a b : ℕ) where
         let x = s.behind l in
         rest_apart t a b n l (λ h k r. false≢true (sym x ∙ h)) ∙ rw x
 
--- one byte more of a run
-pub all_next : (t : List ℕ) (a n : ℕ) → ((i : ℕ) → i < n → in_run (get_or t (a + i) 0) ≡ true) → in_run (get_or t (a + n) 0) ≡ true
-    → (i : ℕ) → i < n + 1 → in_run (get_or t (a + i) 0) ≡ true
-all_next t a n h e i l = go (eqb i n) refl
+-- the first f bytes of a run that has n, or more where f is n
+run_part : (n f : ℕ) (s : List ℕ) → n ≤ f → ((i : ℕ) → i < n → in_run (get_or s i 0) ≡ true) → (n < f → in_run (get_or s n 0) ≡ false)
+    → take f (run_of s) ≡ take n s
+unfolding run_of
+run_part zero zero s l h e = refl
+run_part zero (suc f) [] l h e = refl
+run_part zero (suc f) (c ∷ s) l h e = rw (e (omega arith), run_of, take)
+run_part (suc n) zero s l h e = absurd (omega arith)
+run_part (suc n) (suc f) [] l h e = absurd (false≢true (h 0 (omega arith)))
+run_part (suc n) (suc f) (c ∷ s) l h e =
+    rw (h 0 (omega arith), run_of, run_part n f s (omega arith) (λ i b. h (suc i) (omega arith)) (λ b. e (omega arith)))
+
+-- the name at a place, by the number of its bytes
+pub spelled_part : (t : List ℕ) (a n : ℕ) → HasLength t a n → spelled_at t a ≡ part t a (a + n)
+spelled_part t a n s =
+    let q : a + n - a ≡ n = omega arith in
+    rw q (run_part n 24 (drop a t) s.most (λ i l. rw get_or-drop (s.all i l)) (λ l. rw get_or-drop (s.behind l)))
+
+-- a run begins with n of its bytes, f at most
+abbrev Has : ℕ → ℕ → List ℕ → Type 0
+Has n f s = (n ≤ f) × (n ≤ length s) × ((i : ℕ) → i < n → in_run (get_or s i 0) ≡ true) × (n < f → in_run (get_or s n 0) ≡ false)
+
+has_more : (n f c : ℕ) (s : List ℕ) → in_run c ≡ true → Has n f s → Has (suc n) (suc f) (c ∷ s)
+has_more n f c s e h = (omega arith, omega arith, each, λ l. h.3 (omega arith))
   where
-    go : (b : Bool) → eqb i n ≡ b → in_run (get_or t (a + i) 0) ≡ true
-    go true q = rw (eqb-true i n q) e
-    go false q = h i (omega (arith, eqb-false i n q))
+    each : (i : ℕ) → i < suc n → in_run (get_or (c ∷ s) i 0) ≡ true
+    each zero l = e
+    each (suc i) l = h.2 i (omega arith)
+
+run_has : (f : ℕ) (s : List ℕ) → Has (length (take f (run_of s))) f s
+unfolding run_of
+run_has zero s = (omega arith, omega arith, λ i l. absurd (omega arith), λ l. absurd (omega arith))
+run_has (suc f) [] = (omega arith, omega arith, λ i l. absurd (omega arith), λ l. refl)
+run_has (suc f) (c ∷ s) = go (in_run c) refl (run_has f s)
+  where
+    go : (b : Bool) → in_run c ≡ b → Has (length (take f (run_of s))) f s → Has (length (take (suc f) (run_of (c ∷ s)))) (suc f) (c ∷ s)
+    go true e h = rw (e, run_of) (has_more _ f c s e h)
+    go false e h = rw (e, run_of) (omega arith, omega arith, λ i l. absurd (omega arith), λ l. e)
+
+-- and the other way round
+pub spelled_length : (t : List ℕ) (a : ℕ) → HasLength t a (length (spelled_at t a))
+spelled_length t a =
+    let h = run_has 24 (drop a t) in
+    record {
+      most = h.0;
+      inside = λ l. omega (arith, h.1, length-drop a t);
+      all = λ i l. rw get_or-drop at (h.2 i l);
+      behind = λ l. rw get_or-drop at (h.3 l);
+    }
+
+-- a name sought beyond the text is sought at its end
+pub spelled_inside : (t : List ℕ) (a b : ℕ) → b ≡ min a (length t) → spelled_at t b ≡ spelled_at t a
+spelled_inside t a b e = ap (λ s. take 24 (run_of s)) (rw e (drop_min a t))

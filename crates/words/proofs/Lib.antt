@@ -1,10 +1,9 @@
 pub mod Truths
-pub mod Runs
+pub mod Parts
 pub mod Gaps
 pub mod Spellings
 pub mod Lengths
 pub mod Keys
-pub mod Signs
+pub mod Listed
 pub mod Pieces
 pub mod Cuts
-pub mod Readers

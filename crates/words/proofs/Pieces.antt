@@ -10,15 +10,15 @@ use borrow.Author.Tests.{ne_eqb, le-leb}
 use lib.Dec.{eqb, leb}
 use lib.ListN.{length, get_or, drop, length-drop}
 use lib.Seq.{drop-cons, get_or-drop}
+use Rattle.std.specs.Prelude.{Option, Some, None, is_some}
 use Rattle.paper.specs.Words as W
 use Rattle.paper.specs.Words.{Piece, bytes, reserved, signs, is_blank, is_letter, is_digit, in_run, begins, run_of, parted, value_from, number_piece, name_piece, sign_piece, piece_of}
 use Rattle.words.specs.declared.Word.{Word}
-use Rattle.words.specs.declared.Numeral.{Numeral}
 use Rattle.words.specs.Denoted.{part, folded, entry, denoted, RunEnds, IsNumeral, IsRunClass, sign_of, IsSign, IsSignLength, IsPiece, IsNumberAt, IsNameAt, classed, StandsFor, IsWordAt}
 use Rattle.words.proofs.Truths.{and_swap, or_middle}
-use Rattle.words.proofs.Runs.{part_length}
+use Rattle.words.proofs.Parts.{part_length}
 use Rattle.words.proofs.Spellings.{class_word}
-use Rattle.words.proofs.Signs.{signs_fair, sign_some, sign_short, sign_inside, sign_listed}
+use Rattle.words.proofs.Listed.{signs_fair, sign_some, sign_short, sign_inside, sign_listed}
 
 -- a word that is no name stands for its own class
 pub sole : (P : Word → Type 0) (b : Bool) (t : List ℕ) (r : Word) → eqb r.class 1 ≡ false → P r → (c : ℕ) → StandsFor b t r c → P (classed r c)
@@ -34,17 +34,21 @@ bad_piece : (t : List ℕ) (at : ℕ) (p : Piece) → at ≤ length t → p ≡ 
 bad_piece t at p h e =
     record { here = refl; from = omega arith; to = h; moves = λ q. absurd (true≢false q); some_word = omega arith; known = λ q. absurd (true≢false q); piece = e }
 
-module _ (t : List ℕ) (a e : ℕ) (h : a ≤ e) (l : e ≤ length t) where
-  number_piece_lem : (n : Numeral) → IsNumeral (part t a e) n
-      → number_piece (part t a e) ≡ cond (n.good && parted (part t a e)) (W.word (e - a - 1) (W.number (value_from 0 (part t a e)))) W.bad
-  unfolding number_piece
-  number_piece_lem n d = rw (and_swap, ← d.good, part_length t a e l)
+-- what a value that is there says of the test for it, and the other way round
+some_value : (b : Bool) (v n : ℕ) → Some n ≡ cond b (Some v) None → (b ≡ true) × (v ≡ n)
+some_value true v n q = (refl, cc q)
+some_value false v n q = absurd (cc q)
 
-  pub number_good : (n : Numeral) → IsNumeral (part t a e) n → n.good ≡ true → parted (part t a e) ≡ true
-      → IsNumberAt t a e (record { class = 2; at = a; end = e; value = n.value })
-  unfolding denoted
-  number_good n d g p =
-      let v : n.value ≡ value_from 0 (part t a e) = d.value ∙ rw g in (
+is_value : (b : Bool) (v : ℕ) (r : Option ℕ) → r ≡ cond b (Some v) None → is_some r ≡ b
+is_value true v r q = ap is_some q
+is_value false v r q = ap is_some q
+
+module _ (t : List ℕ) (a e : ℕ) (h : a ≤ e) (l : e ≤ length t) where
+  pub number_good : (n : ℕ) → IsNumeral (part t a e) (Some n) → parted (part t a e) ≡ true
+      → IsNumberAt t a e (record { class = 2; at = a; end = e; value = n })
+  unfolding denoted number_piece
+  number_good n d p =
+      let c = some_value _ _ n d in (
         refl,
         λ m.
             let k : e - a - 1 ≡ e - suc a = omega arith in
@@ -55,12 +59,14 @@ module _ (t : List ℕ) (a e : ℕ) (h : a ≤ e) (l : e ≤ length t) where
               moves = λ _. m;
               some_word = omega arith;
               known = λ _. omega arith;
-              piece = number_piece_lem n d ∙ rw (g, p, k, v);
+              piece = rw (and_swap, c.0, p, part_length t a e l, k, c.1);
             },
       )
 
-  pub number_bad : (n : Numeral) → IsNumeral (part t a e) n → (n.good && parted (part t a e)) ≡ false → IsNumberAt t a e (bad_at a)
-  number_bad n d q = (refl, λ m. bad_piece t a _ (omega arith) (number_piece_lem n d ∙ rw q))
+  pub number_bad : (r : Option ℕ) → IsNumeral (part t a e) r → (is_some r && parted (part t a e)) ≡ false → IsNumberAt t a e (bad_at a)
+  unfolding number_piece
+  number_bad r d q =
+      (refl, λ m. bad_piece t a _ (omega arith) (rw (and_swap, ← is_value _ _ r d, q)))
 
   name_piece_lem :
       name_piece (part t a e)

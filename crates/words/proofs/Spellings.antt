@@ -5,18 +5,13 @@ use mathlib.Core.List.{List, [], ◌∷◌, map}
 use Prim.Native.Nat.{ℕ, suc, ◌+◌, ◌-◌, ◌≤◌, ◌<◌}
 use native.Mathlib.Nat.{add-sub_cancel_left}
 use native.Mathlib.Omega.{arith}
-use borrow.Author.Tests.{ltb-true, ltb-false, eqb-true, eqb-false, eq-eqb, ne_eqb, le-leb}
+use borrow.Author.Tests.{ltb-true, ltb-false, eqb-true, ne_eqb, le-leb}
 use lib.Dec.{eqb, ltb}
 use lib.ListN.{length, get_or, take, drop, length-map, get_or-append, get_or-eq_default, drop_of_length-le}
 use lib.Seq.{drop-cons, take-nil}
 use Rattle.paper.specs.Words.{Spelled, ending, between, in_run, run_of, capital, same_bytes, reserved, signs}
-use Rattle.words.specs.Denoted.{part, folded, other_case, name_at, rest_at, entries, entry, denoted}
-use Rattle.words.proofs.Runs.{part_length, in_range}
-
--- ---- a part of a text in capitals
-
-pub folded_length : (t : List ℕ) (a e : ℕ) → e ≤ length t → length (folded t a e) ≡ e - a
-folded_length t a e h = length-map (part t a e) capital ∙ part_length t a e h
+use Rattle.words.specs.Denoted.{part, folded, name_at, rest_at, entries, entry, denoted}
+use Rattle.words.proofs.Parts.{part_length, in_range}
 
 -- ---- names byte by byte
 
@@ -33,36 +28,6 @@ run_capital c = go (between 97 122 c) refl
 -- so of two bytes that are the same in capitals, both are in a run or none
 pub same_run : (x y : ℕ) → eqb (capital x) (capital y) ≡ true → in_run x ≡ in_run y
 same_run x y e = sym (run_capital x) ∙ ap in_run (eqb-true (capital x) (capital y) e) ∙ run_capital y
-
-out_of_range : (l u c : ℕ) → between l u c ≡ false → l ≤ c → c ≤ u → ⊥
-out_of_range l u c h p q =
-    let e : between l u c ≡ true = rw (le-leb l c p, le-leb c u q) in
-    true≢false (sym e ∙ h)
-
--- two tests for the same number
-same_tests : (p q r s : ℕ) → (p ≡ q → r ≡ s) → (r ≡ s → p ≡ q) → eqb p q ≡ eqb r s
-same_tests p q r s f g = go (eqb r s) refl
-  where
-    go : (b : Bool) → eqb r s ≡ b → eqb p q ≡ b
-    go true e = eq-eqb p q (g (eqb-true r s e))
-    go false e = ne_eqb p q (λ h. eqb-false r s e (f h))
-
--- bytes that differ are the same in capitals where each is the other's other case
-pub case_apart : (x y : ℕ) → (x ≡ y → ⊥) → eqb (capital x) (capital y) ≡ eqb y (other_case x)
-case_apart x y n = go (between 97 122 x) refl (between 65 90 x) refl (between 97 122 y) refl
-  where
-    go : (a : Bool) → between 97 122 x ≡ a → (b : Bool) → between 65 90 x ≡ b → (c : Bool) → between 97 122 y ≡ c
-        → eqb (cond a (x - 32) x) (cond c (y - 32) y) ≡ eqb y (cond a (x - 32) (cond b (x + 32) x))
-    go true h b k true l = same_tests (x - 32) (y - 32) y (x - 32)
-        (λ q. absurd (n (omega (arith, in_range 97 122 x h, in_range 97 122 y l))))
-        (λ q. absurd (omega (arith, in_range 97 122 x h, in_range 97 122 y l)))
-    go true h b k false l = same_tests (x - 32) y y (x - 32) sym sym
-    go false h true k true l = same_tests x (y - 32) y (x + 32)
-        (λ q. omega (arith, in_range 97 122 y l))
-        (λ q. omega arith)
-    go false h false k true l = same_tests x (y - 32) y x (λ q. absurd (out_of_range 65 90 x k (omega (arith, in_range 97 122 y l)) (omega (arith, in_range 97 122 y l)))) (λ q. absurd (n (sym q)))
-    go false h true k false l = same_tests x y y (x + 32) (λ q. absurd (n q)) (λ q. absurd (out_of_range 97 122 y l (omega (arith, in_range 65 90 x k)) (omega (arith, in_range 65 90 x k))))
-    go false h false k false l = same_tests x y y x sym sym
 
 -- no run has a byte beyond the text
 pub in_text : (t : List ℕ) (p : ℕ) → in_run (get_or t p 0) ≡ true → p < length t

@@ -1,16 +1,12 @@
 -- What the answers of this crate stand for, in the words of `paper`.
-use Rattle.std.specs.Prelude.{◌≡◌, Bool, true, false, not, cond, ◌&&◌, ◌||◌, List, [], ◌∷◌, ◌++◌, map, ℕ, suc, ◌+◌, ◌-◌, ◌≤◌, ◌<◌, eqb, leb, length, get_or, take, drop}
+use Rattle.std.specs.Prelude.{◌≡◌, Bool, true, false, not, cond, ◌&&◌, ◌||◌, List, [], ◌∷◌, ◌++◌, map, ℕ, suc, ◌+◌, ◌-◌, ◌≤◌, ◌<◌, eqb, leb, length, get_or, take, drop, Option, Some, None, Result, Ok, Err}
 use Rattle.std.proofs.Math.Option.{none, some}
 use Rattle.paper.specs.declared.Why.TheVariants.{NoWord}
 use Rattle.paper.specs.Refusals.{Answer, refused, given, ◌>>=◌}
 use Rattle.paper.specs.Words as W
 use Rattle.paper.specs.Words.{Token, Spelled, Piece, bytes, reserved, signs, same_bytes, between, in_run, is_underscore, is_blank, begins, closed, run_of, parted, all_digits, value_from, capital, look_up, number_piece, name_piece, sign_piece, piece_of, words_from, words_of}
 use Rattle.words.specs.declared.Word.{Word}
-use Rattle.words.specs.declared.Gap.{Gap}
-use Rattle.words.specs.declared.Run.{Run}
-use Rattle.words.specs.declared.Numeral.{Numeral}
-use Rattle.words.specs.declared.FirstBad.{FirstBad}
-use Rattle.words.specs.declared.FirstBad.TheVariants.{At, Nowhere}
+use Rattle.words.specs.declared.runs.Run.{Run}
 
 -- the bytes from a up to e, and the same in capitals
 abbrev pub part : List ℕ → ℕ → ℕ → List ℕ
@@ -18,10 +14,6 @@ part t a e = take (e - a) (drop a t)
 
 abbrev pub folded : List ℕ → ℕ → ℕ → List ℕ
 folded t a e = map capital (part t a e)
-
--- a letter in its other case
-abbrev pub other_case : ℕ → ℕ
-other_case c = cond (between 97 122 c) (c - 32) (cond (between 65 90 c) (c + 32) c)
 
 -- the name at a place: the run there, at most 24 bytes of it; and in capitals
 abbrev pub spelled_at : List ℕ → ℕ → List ℕ
@@ -33,18 +25,6 @@ name_at t p = map capital (spelled_at t p)
 -- what is left of it behind i bytes
 abbrev pub rest_at : List ℕ → ℕ → ℕ → List ℕ
 rest_at t p i = map capital (take (24 - i) (run_of (drop (p + i) t)))
-
-pub record NameEnds (t : List ℕ) (at r : ℕ) : Type 0 where
-  pub from : at ≤ r
-  pub to : r ≤ length t
-  pub short : r - at ≤ 24
-  pub name : spelled_at t at ≡ part t at r
-
--- r bytes lie behind a place in a text of n, 24 or up to its end
-pub record IsRoom (n at r : ℕ) : Type 0 where
-  pub most : r ≤ 24
-  pub inside : at + r ≤ n
-  pub full : r < 24 → at + r ≡ n
 
 -- the name at a has n bytes
 pub record HasLength (t : List ℕ) (a n : ℕ) : Type 0 where
@@ -77,25 +57,33 @@ denoted c s n =
 
 -- ---- the parts of a word
 
--- behind the comment's end, or one beyond the text
-abbrev pub CommentEnds : List ℕ → ℕ → ℕ → Type 0
-CommentEnds t at r = elim (closed (drop at t)) [ none ↦ r ≡ length t + 1 | some n ↦ (r ≡ at + n) × (r ≤ length t) ]
+-- the place behind the comment's end, if it ends
+abbrev pub CommentEnds : List ℕ → ℕ → Option ℕ → Type 0
+CommentEnds t at r = elim (closed (drop at t)) [ none ↦ r ≡ None | some n ↦ (r ≡ Some (at + n)) × (at + n ≤ length t) ]
 
 -- the words from a place on, in the text t
 abbrev pub words_at : List ℕ → ℕ → Answer (List Token)
 words_at t at = words_from 0 at (drop at t)
 
--- an open comment is no word; else the words from there on are the words, and no blank or comment is next
-abbrev pub Behind : List ℕ → ℕ → ℕ → Bool → Type 0
-Behind t at i true = words_at t at ≡ refused NoWord i
-Behind t at i false =
+-- the words from there on are the words, and no blank or comment is next
+abbrev pub Clear : List ℕ → ℕ → ℕ → Type 0
+Clear t at i =
     (words_at t at ≡ words_at t i)
     × (i < length t → (is_blank (get_or t i 0) ≡ false) × (begins (bytes "(*") (drop i t) ≡ false))
 
-pub record Skips (t : List ℕ) (at : ℕ) (g : Gap) : Type 0 where
-  pub from : at ≤ g.at
-  pub to : g.at ≤ length t
-  pub behind : Behind t at g.at g.open
+-- an open comment is no word
+abbrev pub Open : List ℕ → ℕ → ℕ → Type 0
+Open t at i = words_at t at ≡ refused NoWord i
+
+-- a place i from `at` on, where S holds
+pub record Stops (t : List ℕ) (at i : ℕ) (S : Type 0) : Type 0 where
+  pub from : at ≤ i
+  pub to : i ≤ length t
+  pub there : S
+
+abbrev pub Skips : List ℕ → ℕ → Result ℕ ℕ → Type 0
+Skips t at (Ok i) = Stops t at i (Clear t at i)
+Skips t at (Err i) = Stops t at i (Open t at i)
 
 pub record RunEnds (t : List ℕ) (at r : ℕ) : Type 0 where
   pub from : at ≤ r
@@ -110,9 +98,9 @@ pub record IsRun (t : List ℕ) (at : ℕ) (r : Run) : Type 0 where
   pub ends : RunEnds t at r.end
   pub parted : r.parted ≡ parted (part t at r.end)
 
-pub record IsNumeral (s : List ℕ) (r : Numeral) : Type 0 where
-  pub good : r.good ≡ (all_digits s && leb (value_from 0 s) 4294967295)
-  pub value : r.value ≡ cond r.good (value_from 0 s) 0
+-- its value, if it is a number that fits
+abbrev pub IsNumeral : List ℕ → Option ℕ → Type 0
+IsNumeral s r = r ≡ cond (all_digits s && leb (value_from 0 s) 4294967295) (Some (value_from 0 s)) None
 
 pub record IsRunClass (s : List ℕ) (c : ℕ) : Type 0 where
   pub low : 0 < c
@@ -213,6 +201,6 @@ abbrev pub IsTold : Bool → List ℕ → ℕ → Word → Type 0
 IsTold told t at r = (c : ℕ) → StandsFor told t r c → IsWord t at (classed r c)
 
 -- refusal 2, or none
-abbrev pub IsFirstBad : List ℕ → FirstBad → Type 0
-IsFirstBad t (At p) = words_of t ≡ refused NoWord p
-IsFirstBad t Nowhere = (ts : List Token) × (words_of t ≡ given ts)
+abbrev pub IsFirstBad : List ℕ → Option ℕ → Type 0
+IsFirstBad t (Some p) = words_of t ≡ refused NoWord p
+IsFirstBad t None = (ts : List Token) × (words_of t ≡ given ts)

@@ -1,5 +1,5 @@
 -- Runs as numbers, by which the code knows the reserved words.
-use Rattle.std.specs.Prelude.{◌≡◌, Bool, true, false, cond, List, [], ◌∷◌, ◌++◌, map, ℕ, ◌+◌, ◌-◌, ◌*◌, ◌%◌, ltb, length, get_or, take, drop}
+use Rattle.std.specs.Prelude.{◌≡◌, Bool, true, false, cond, List, [], ◌∷◌, ◌++◌, map, ℕ, ◌+◌, ◌-◌, ◌*◌, ◌%◌, ◌<◌, length, get_or, take, drop, Option, Some, None}
 use types.Run.{OneOf}
 use Rattle.paper.specs.Words.{between, is_underscore}
 
@@ -43,13 +43,10 @@ NoneOf (ks ∷ arms) a N = NoneOf arms a (N × (OneOf ks a → ⊥))
 abbrev pub singly : List ℕ → List (List ℕ)
 singly ks = map (λ k. k ∷ []) ks
 
--- i is the number of the word with this key, or no number where none of ks is this key
-abbrev pub NumberedBy : List ℕ → ℕ → ℕ → Bool → Type 0
-NumberedBy ks key i true = key ≡ get_or keys i 0
-NumberedBy ks key i false = NoneOf (singly ks) key (Unit {0})
-
-abbrev pub Numbered : List ℕ → ℕ → ℕ → Type 0
-Numbered ks key i = NumberedBy ks key i (ltb i 51)
+-- the number of the word with this key, if one of ks is this key
+abbrev pub Numbered : List ℕ → ℕ → Option ℕ → Type 0
+Numbered ks key (Some i) = (i < 51) × (key ≡ get_or keys i 0)
+Numbered ks key None = NoneOf (singly ks) key (Unit {0})
 
 -- ---- which runs can't be reserved
 
