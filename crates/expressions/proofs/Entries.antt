@@ -1,14 +1,13 @@
 -- A function of words, known at every class from one test that antt computes over the list of all words.
 use mathlib.Core.Path.{◌≡◌, refl, sym, ap, ◌∙◌}
 use mathlib.Core.Bool.{Bool, true, false, cond, ◌&&◌}
-use mathlib.Core.Option.{none}
 use mathlib.Core.List.{List, [], ◌∷◌, map}
-use Prim.Native.Nat.{ℕ, zero, suc, ◌+◌, ◌-◌, ◌<◌, ◌≤◌}
+use Prim.Native.Nat.{ℕ, zero, suc, ◌+◌, ◌<◌, ◌≤◌}
 use Prim.Native.String.{String}
 use native.Mathlib.Omega.{arith}
 use borrow.Author.Tests.{ltb-true, ltb-false, ne_eqb}
 use lib.Dec.{eqb, ltb}
-use lib.ListN.{length, get_or, get_elem?, get_or-map}
+use lib.ListN.{get_or, get_or-map}
 use Rattle.paper.specs.Words as W
 use Rattle.paper.specs.Words.{Spelled, bytes}
 use Rattle.paper.specs.Reading.{is_key}
@@ -35,19 +34,6 @@ unfolding said
 said_beyond g a zero i d h = refl
 said_beyond g a (suc k) zero d h = absurd (omega arith)
 said_beyond g a (suc k) (suc i) d h = said_beyond g (suc a) k i d (omega arith)
-
--- f and g agree at each of the numbers over which they say the same
-pub same_from : {A : Type 0} (f g : ℕ → A) (a k : ℕ) → said f a k ≡ said g a k → (i : ℕ) → a ≤ i → i < a + k → f i ≡ g i
-same_from {A} f g a k t i l h =
-    let e : a + (i - a) ≡ i = omega arith in
-    ap f (sym e) ∙ sym (said_at f a k (i - a) (f i) (omega arith))
-    ∙ ap (λ (v : List A). get_or v (i - a) (f i)) t ∙ said_at g a k (i - a) (f i) (omega arith) ∙ ap g e
-
--- behind the last entry of a list there is none
-pub none_there : {A : Type 0} (l : List A) (i : ℕ) → length l ≤ i → get_elem? l i ≡ none
-none_there [] i h = refl
-none_there (a ∷ l) zero h = absurd (omega arith)
-none_there (a ∷ l) (suc i) h = none_there l i (omega arith)
 
 -- the words in the order of their classes
 unfoldable pub words : List ℕ → ℕ → List W.Word

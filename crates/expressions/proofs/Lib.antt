@@ -5,8 +5,10 @@ pub mod Answers
 pub mod Nodes
 pub mod Steps
 pub mod Moves
-mod Primaries
+pub mod Primaries
 mod Joins
 mod Turns
 mod Inside
 mod Written
+pub mod Reached
+pub mod Arms

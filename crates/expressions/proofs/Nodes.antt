@@ -26,17 +26,18 @@ both_same n m old mid new s l r = same_trans old mid new n s (same_less mid new 
 pub put_same : (n m k a b c : ℕ) (old mid new : List ℕ) → Same n old mid → n < m → new ≡ written mid m k a b c → Same n old new
 put_same n m k a b c old mid new s l e = same_trans old mid new n s (rw e (written_same mid m k a b c n l))
 
+-- a number's value in two words
+value : (v : ℕ) → v % 65536 + 65536 * (v / 65536) ≡ v
+value v = omega arith
+
+module _ (t old new : List ℕ) (n v c : ℕ) (some : 0 < n) (fits : 4 * n + 4 ≤ length old) where
+  pub put_plain : new ≡ written old n 1 (v % 65536) (v / 65536) c → expr_at t new n ≡ S.number c (pos v)
+  put_plain e = rw (e, put_number t old n (v % 65536) (v / 65536) c some fits, value v)
+
+  pub put_below : new ≡ written old n 2 (v % 65536) (v / 65536) c → expr_at t new n ≡ S.number c (neg_ℤ (pos v))
+  put_below e = rw (e, put_negative t old n (v % 65536) (v / 65536) c some fits, value v)
+
 module _ (t old new : List ℕ) (n a b c : ℕ) (some : 0 < n) (fits : 4 * n + 4 ≤ length old) where
-  module _ (v : ℕ) (lo : a ≡ v % 65536) (hi : b ≡ v / 65536) where
-    value : a + 65536 * b ≡ v
-    value = omega arith
-
-    pub put_plain : new ≡ written old n 1 a b c → expr_at t new n ≡ S.number c (pos v)
-    put_plain e = rw (e, put_number t old n a b c some fits, value)
-
-    pub put_below : new ≡ written old n 2 a b c → expr_at t new n ≡ S.number c (neg_ℤ (pos v))
-    put_below e = rw (e, put_negative t old n a b c some fits, value)
-
   pub put_flag : (v : Bool) → new ≡ written old n (cond v 4 3) a b c → expr_at t new n ≡ S.truth c v
   put_flag v e = rw e (put_truth t old n a b c some fits v)
 

@@ -10,7 +10,11 @@ use lib.Dec.{eqb}
 use lib.IntN.{pos, neg_ℤ}
 use lib.ListN.{length}
 use borrow.Author.Tests.{eq-eqb, ne_eqb, lt-ltb, le-ltb}
-use Rattle.paper.specs.Refusals.{given, ◌>>=◌}
+use Rattle.std.specs.Prelude.{Result, Ok, Err}
+use Rattle.paper.specs.declared.Refusal.{Refusal}
+use Rattle.paper.specs.declared.Why.{Why}
+use Rattle.paper.specs.declared.Why.TheVariants.{BadShape, TooDeep}
+use Rattle.paper.specs.Refusals.{given, refusal, ◌>>=◌}
 use Rattle.paper.specs.Words.{Token, bytes}
 use Rattle.paper.specs.Source as S
 use Rattle.paper.specs.Source.{Expr}
@@ -47,8 +51,8 @@ module _ (t : List ℕ) (at : ℕ) (w : Word) (i : IsWord t at w) (ts : List Tok
   no_number e = rw (next.next, number_class w.class, ne_eqb w.class 2 e)
 
   -- refused at it
-  pub here : (c n : ℕ) (r : Parsed) → r ≡ record { code = c; at = w.at; count = n; root = 0 } → (r.code ≡ c) × (r.at ≡ R.here ts)
-  here c n r er = rw (er, next.here) (refl, refl)
+  pub here : {T : Type 0} (y : Why) → ◌≡◌ {A = Result T Refusal} (Err (refusal y w.at)) (Err (refusal y (R.here ts)))
+  here y = rw next.here
 
 -- ---- brackets
 
@@ -61,24 +65,22 @@ module _ (f nest : ℕ) (ts : List Token) where
   unfolding R.operand
   bracketed_1 e = rw (e, R.bracketed)
 
-module _ (t : List ℕ) (at nest : ℕ) (w : Word) (i : IsWord t at w) (D : ℕ → Expr) (r : Parsed) where
-  pub bracketed_other : (n : ℕ) → (w.class ≡ 62 → ⊥) → r ≡ record { code = 3; at = w.at; count = n; root = 0 }
-      → Runs D t at 1 0 (λ f ts. R.bracketed f nest ts) r
-  bracketed_other n e er ts h zero l = absurd (omega arith)
-  bracketed_other n e er ts h (suc f) l =
-      rw (bracketed_0 f nest ts (sees_other t at w i ts h "(" 62 key_round e)) (here t at w i ts h 3 n r er)
+module _ (t : List ℕ) (at nest : ℕ) (w : Word) (i : IsWord t at w) (D : ℕ → Expr) where
+  pub bracketed_other : (w.class ≡ 62 → ⊥) → Runs D t at 1 0 (λ f ts. R.bracketed f nest ts) (Err (refusal BadShape w.at))
+  bracketed_other e ts h zero l = absurd (omega arith)
+  bracketed_other e ts h (suc f) l =
+      rw (bracketed_0 f nest ts (sees_other t at w i ts h "(" 62 key_round e)) (here t at w i ts h BadShape)
 
   module _ (e : w.class ≡ 62) where
-    pub bracketed_deep : (n : ℕ) → 64 ≤ nest → r ≡ record { code = 4; at = w.at; count = n; root = 0 }
-        → Runs D t at 1 0 (λ f ts. R.bracketed f nest ts) r
-    bracketed_deep n d er ts h zero l = absurd (omega arith)
-    bracketed_deep n d er ts h (suc f) l =
-        rw (bracketed_1 f nest ts (sees_it t at w i ts h "(" 62 key_round e), le-ltb nest 64 d) (here t at w i ts h 4 n r er)
+    pub bracketed_deep : 64 ≤ nest → Runs D t at 1 0 (λ f ts. R.bracketed f nest ts) (Err (refusal TooDeep w.at))
+    bracketed_deep d ts h zero l = absurd (omega arith)
+    bracketed_deep d ts h (suc f) l =
+        rw (bracketed_1 f nest ts (sees_it t at w i ts h "(" 62 key_round e), le-ltb nest 64 d) (here t at w i ts h TooDeep)
 
-    pub bracketed_on : nest < 64 → Runs D t w.end 1 5 (λ f ts. closed f nest ")" (λ x. x) ts) r
+    pub bracketed_on : (r : Result Parsed Refusal) → nest < 64 → Runs D t w.end 1 5 (λ f ts. closed f nest ")" (λ x. x) ts) r
         → Runs D t at 1 0 (λ f ts. R.bracketed f nest ts) r
-    bracketed_on d x ts h zero l = absurd (omega arith)
-    bracketed_on d x ts h (suc f) l =
+    bracketed_on r d x ts h zero l = absurd (omega arith)
+    bracketed_on r d x ts h (suc f) l =
         let b = passed t at w i ts h 62 e refl in
         rw (bracketed_1 f nest ts (sees_it t at w i ts h "(" 62 key_round e), lt-ltb nest 64 d)
         (weaken D t 1 (length ts) 1 (length (R.behind ts)) (closed f nest ")" (λ x. x) (R.behind ts)) r (omega arith) (x (R.behind ts) b.0 f (omega arith)))
@@ -95,25 +97,24 @@ module _ (f nest : ℕ) (k : Token) (ts : List Token) (s : S.Name) where
   unfolding R.operand
   named_1 e = rw (e, R.named)
 
-module _ (t : List ℕ) (at nest : ℕ) (w : Word) (i : IsWord t at w) (k : Token) (s : S.Name) (D : ℕ → Expr) (r : Parsed) where
-  pub named_plain : (m : ℕ) → (w.class ≡ 64 → ⊥) → r ≡ record { code = 0; at = at; count = m; root = m } → D m ≡ S.variable k.place s
-      → Runs D t at 0 0 (λ f ts. R.named f nest (k ∷ ts) s) r
-  named_plain m e er d ts h zero l = absurd (omega arith)
-  named_plain m e er d ts h (suc f) l =
+module _ (t : List ℕ) (at nest : ℕ) (w : Word) (i : IsWord t at w) (k : Token) (s : S.Name) (D : ℕ → Expr) where
+  pub named_plain : (m : ℕ) → (w.class ≡ 64 → ⊥) → D m ≡ S.variable k.place s
+      → Runs D t at 0 0 (λ f ts. R.named f nest (k ∷ ts) s) (Ok (record { at = at; count = m; root = m }))
+  named_plain m e d ts h zero l = absurd (omega arith)
+  named_plain m e d ts h (suc f) l =
       rw (named_0 f nest k ts s (sees_other t at w i ts h "[" 64 key_square e))
-      (done D t 0 (length ts) _ ts r at m m er d h (omega arith))
+      (done D t 0 (length ts) _ ts at m m d h (omega arith))
 
   module _ (e : w.class ≡ 64) where
-    pub named_deep : (n : ℕ) → 64 ≤ nest → r ≡ record { code = 4; at = w.at; count = n; root = 0 }
-        → Runs D t at 0 0 (λ f ts. R.named f nest (k ∷ ts) s) r
-    named_deep n d er ts h zero l = absurd (omega arith)
-    named_deep n d er ts h (suc f) l =
-        rw (named_1 f nest k ts s (sees_it t at w i ts h "[" 64 key_square e), le-ltb nest 64 d) (here t at w i ts h 4 n r er)
+    pub named_deep : 64 ≤ nest → Runs D t at 0 0 (λ f ts. R.named f nest (k ∷ ts) s) (Err (refusal TooDeep w.at))
+    named_deep d ts h zero l = absurd (omega arith)
+    named_deep d ts h (suc f) l =
+        rw (named_1 f nest k ts s (sees_it t at w i ts h "[" 64 key_square e), le-ltb nest 64 d) (here t at w i ts h TooDeep)
 
-    pub named_on : nest < 64 → Runs D t w.end 1 5 (λ f ts. closed f nest "]" (S.element k.place s w.at) ts) r
+    pub named_on : (r : Result Parsed Refusal) → nest < 64 → Runs D t w.end 1 5 (λ f ts. closed f nest "]" (S.element k.place s w.at) ts) r
         → Runs D t at 0 0 (λ f ts. R.named f nest (k ∷ ts) s) r
-    named_on d x ts h zero l = absurd (omega arith)
-    named_on d x ts h (suc f) l =
+    named_on r d x ts h zero l = absurd (omega arith)
+    named_on r d x ts h (suc f) l =
         let b = passed t at w i ts h 64 e refl in
         rw (named_1 f nest k ts s (sees_it t at w i ts h "[" 64 key_square e), lt-ltb nest 64 d, (next t at w i ts h).here)
         (weaken D t 0 (length ts) 1 (length (R.behind ts)) (closed f nest "]" (S.element k.place s w.at) (R.behind ts)) r (omega arith) (x (R.behind ts) b.0 f (omega arith)))
@@ -140,38 +141,38 @@ module _ (f nest : ℕ) (ts : List Token) where
   unfolding R.operand
   operand_11 e g = rw (e, g, R.operand)
 
-module _ (t : List ℕ) (at nest : ℕ) (w : Word) (i : IsWord t at w) (D : ℕ → Expr) (r : Parsed) where
+module _ (t : List ℕ) (at nest : ℕ) (w : Word) (i : IsWord t at w) (D : ℕ → Expr) where
   module _ (e : w.class ≡ 69) (v : Word) (j : IsWord t w.end v) where
-    pub operand_negative : (m : ℕ) → v.class ≡ 2 → r ≡ record { code = 0; at = v.end; count = m; root = m }
-        → D m ≡ S.number w.at (neg_ℤ (pos v.value)) → Runs D t at 1 3 (λ f ts. R.operand f nest ts) r
-    operand_negative m g er d ts h zero l = absurd (omega arith)
-    operand_negative m g er d ts h (suc f) l =
+    pub operand_negative : (m : ℕ) → v.class ≡ 2 → D m ≡ S.number w.at (neg_ℤ (pos v.value))
+        → Runs D t at 1 3 (λ f ts. R.operand f nest ts) (Ok (record { at = v.end; count = m; root = m }))
+    operand_negative m g d ts h zero l = absurd (omega arith)
+    operand_negative m g d ts h (suc f) l =
         let us = R.behind ts in
         let b = passed t at w i ts h 69 e refl in
         let a = passed t w.end v j us b.0 2 g refl in
         rw (operand_00 f nest ts v.value (sees_it t at w i ts h "-" 69 key_minus e) (a_number_lem t w.end v j us b.0 g), (next t at w i ts h).here)
-        (done D t 1 (length ts) _ _ r v.end m m er d a.0 (omega arith))
+        (done D t 1 (length ts) _ _ v.end m m d a.0 (omega arith))
 
-    pub operand_minus : (v.class ≡ 2 → ⊥) → Runs D t w.end 1 1 (λ f ts. R.primary f nest ts >>= λ a. ok (unary 7 w.at a.it) a.rest) r
+    pub operand_minus : (r : Result Parsed Refusal) → (v.class ≡ 2 → ⊥) → Runs D t w.end 1 1 (λ f ts. R.primary f nest ts >>= λ a. ok (unary 7 w.at a.it) a.rest) r
         → Runs D t at 1 3 (λ f ts. R.operand f nest ts) r
-    operand_minus g x ts h zero l = absurd (omega arith)
-    operand_minus g x ts h (suc f) l =
+    operand_minus r g x ts h zero l = absurd (omega arith)
+    operand_minus r g x ts h (suc f) l =
         let us = R.behind ts in
         let b = passed t at w i ts h 69 e refl in
         rw (operand_01 f nest ts (sees_it t at w i ts h "-" 69 key_minus e) (no_number t w.end v j us b.0 g), (next t at w i ts h).here)
         (weaken D t 1 (length ts) 1 (length us) (R.primary f nest us >>= λ a. ok (unary 7 w.at a.it) a.rest) r (omega arith) (x us b.0 f (omega arith)))
 
   module _ (e : w.class ≡ 69 → ⊥) where
-    pub operand_not : w.class ≡ 28 → Runs D t w.end 1 1 (λ f ts. R.primary f nest ts >>= λ a. ok (unary 8 w.at a.it) a.rest) r
+    pub operand_not : (r : Result Parsed Refusal) → w.class ≡ 28 → Runs D t w.end 1 1 (λ f ts. R.primary f nest ts >>= λ a. ok (unary 8 w.at a.it) a.rest) r
         → Runs D t at 1 3 (λ f ts. R.operand f nest ts) r
-    operand_not g x ts h zero l = absurd (omega arith)
-    operand_not g x ts h (suc f) l =
+    operand_not r g x ts h zero l = absurd (omega arith)
+    operand_not r g x ts h (suc f) l =
         let us = R.behind ts in
         let b = passed t at w i ts h 28 g refl in
         rw (operand_10 f nest ts (sees_other t at w i ts h "-" 69 key_minus e) (sees_it t at w i ts h "NOT" 28 key_not g), (next t at w i ts h).here)
         (weaken D t 1 (length ts) 1 (length us) (R.primary f nest us >>= λ a. ok (unary 8 w.at a.it) a.rest) r (omega arith) (x us b.0 f (omega arith)))
 
-    pub operand_plain : (w.class ≡ 28 → ⊥) → Runs D t at 1 1 (λ f ts. R.primary f nest ts) r → Runs D t at 1 3 (λ f ts. R.operand f nest ts) r
-    operand_plain g x ts h zero l = absurd (omega arith)
-    operand_plain g x ts h (suc f) l =
+    pub operand_plain : (r : Result Parsed Refusal) → (w.class ≡ 28 → ⊥) → Runs D t at 1 1 (λ f ts. R.primary f nest ts) r → Runs D t at 1 3 (λ f ts. R.operand f nest ts) r
+    operand_plain r g x ts h zero l = absurd (omega arith)
+    operand_plain r g x ts h (suc f) l =
         rw (operand_11 f nest ts (sees_other t at w i ts h "-" 69 key_minus e) (sees_other t at w i ts h "NOT" 28 key_not g)) (x ts h f (omega arith))

@@ -1,15 +1,14 @@
 -- The next word of a text and the next word of its list of words: what a class says.
 use mathlib.Core.Path.{◌≡◌, refl, sym, ap, ◌∙◌}
 use mathlib.Core.Bool.{Bool, true, false, cond, ◌||◌, or-true, true≢false}
-use mathlib.Core.Option.{Option, none, some}
+use mathlib.Core.Option.{none, some}
 use mathlib.Core.List.{List, [], ◌∷◌}
 use Prim.Native.Nat.{ℕ, suc, ◌-◌, ◌<◌}
 use native.Mathlib.Omega.{arith}
 use borrow.Author.Tests.{ltb-true, lt-ltb}
 use lib.Dec.{eqb, ltb}
-use lib.ListN.{length, get_elem?}
+use lib.ListN.{length}
 use lib.Seq.{drop-cons}
-use Rattle.paper.specs.declared.Ty.{Ty}
 use Rattle.paper.specs.declared.Why.TheVariants.{NoWord}
 use Rattle.paper.specs.Refusals.{refused, given, ◌>>=◌}
 use Rattle.paper.specs.Words as W
@@ -17,9 +16,9 @@ use Rattle.paper.specs.Words.{Token, bytes, same_bytes, reserved, signs}
 use Rattle.paper.specs.Reading as R
 use Rattle.words.specs.declared.Word.{Word}
 use Rattle.words.specs.Denoted.{words_at, denoted, folded, entries, IsWord}
-use Rattle.tree.specs.Trees.{types, name_at}
+use Rattle.tree.specs.Trees.{name_at}
 use Rattle.expressions.specs.Reads.{KeyIs}
-use Rattle.expressions.proofs.Entries.{words, said, none_there, by_class, key_class, by_arms}
+use Rattle.expressions.proofs.Entries.{words, said, by_class, key_class, by_arms}
 use Rattle.expressions.proofs.Names.{in_front, first_name}
 
 -- the word that the code reads, w, is the next of the words ts
@@ -223,29 +222,6 @@ name_class c n s = by_arms R.a_name ((1, some s) ∷ []) s n refl refl c
 pub truth_class : (c n : ℕ) (s : List ℕ) → R.a_truth (denoted c s n) ≡ cond (eqb c 33) (some true) (cond (eqb c 34) (some false) none)
 unfolding reserved signs entries words said
 truth_class c n s = by_arms R.a_truth ((33, some true) ∷ (34, some false) ∷ []) s n refl refl c
-
--- the types stand from 23 on
-abbrev type_of : ℕ → Option Ty
-type_of c = cond (ltb 22 c) (get_elem? types (c - 23)) none
-
-typeless : (c : ℕ) → (22 < c → c < 28 → ⊥) → type_of c ≡ none
-typeless c h = go (ltb 22 c) refl
-  where
-    go : (b : Bool) → ltb 22 c ≡ b → cond b (get_elem? types (c - 23)) none ≡ none
-    go true q =
-        let l : 22 < c = ltb-true 22 c q in
-        none_there types (c - 23) (omega (arith, h l))
-    go false q = refl
-
-typed : (c n : ℕ) (s : List ℕ) → R.a_type (denoted c s n) ≡ type_of c
-unfolding reserved signs entries words said
-typed c n s = by_class R.a_type type_of s n refl (λ d h. sym (typeless d (λ _ k. omega arith))) c
-
-pub type_class : (c n : ℕ) (s : List ℕ) → 22 < c → c < 28 → R.a_type (denoted c s n) ≡ get_elem? types (c - 23)
-type_class c n s l h = typed c n s ∙ rw (lt-ltb 22 c l)
-
-pub no_type : (c n : ℕ) (s : List ℕ) → (22 < c → c < 28 → ⊥) → R.a_type (denoted c s n) ≡ none
-no_type c n s h = typed c n s ∙ typeless c h
 
 -- only 0 and the numbers beyond the list stand for the ending
 ended : (c n : ℕ) (s : List ℕ) → R.is_ending (denoted c s n) ≡ eqb c 0 || ltb 73 c

@@ -1,6 +1,9 @@
 // Classes of words that the shape asks for: 3 and the number in the list of reserved words, 54 and the number in that of the signs.
 ghost use Rattle.std.specs.Prelude.{◌≡◌};
-ghost use Rattle.expressions.specs.Reads.{IsOperator, level_of, IsConversion};
+ghost use Rattle.paper.specs.Reading as R;
+ghost use Rattle.expressions.specs.Reads.{IsOperator, IsType, IsConversion};
+
+use paper::{Op, Ty};
 
 pub const PROGRAM: u8 = 3;
 
@@ -68,69 +71,86 @@ pub const SQUARE_END: u8 = 65;
 
 pub const MINUS: u8 = 69;
 
-// The number of an operator, 14 for a word that is none.
-pub fn operator(class: u8) -> u8
+// The operator that a word of the class is.
+#[tactic(auto, using(crate::proofs::Arms::operator_said))]
+pub fn operator(class: u8) -> Option<Op>
     ensures { IsOperator class result }
 {
     match class {
-        66 => 0,
-        67 => 1,
-        29 => 2,
-        68 => 3,
-        69 => 4,
-        70 => 5,
-        71 => 6,
-        56 => 7,
-        57 => 8,
-        72 => 9,
-        58 => 10,
-        30 => 11,
-        73 => 11,
-        31 => 12,
-        32 => 13,
-        _ => 14,
+        66 => Some(Op::Mul),
+        67 => Some(Op::Div),
+        29 => Some(Op::Mod),
+        68 => Some(Op::Add),
+        69 => Some(Op::Sub),
+        70 => Some(Op::Lt),
+        71 => Some(Op::Gt),
+        56 => Some(Op::Le),
+        57 => Some(Op::Ge),
+        72 => Some(Op::Eq),
+        58 => Some(Op::Ne),
+        30 => Some(Op::And),
+        73 => Some(Op::And),
+        31 => Some(Op::Xor),
+        32 => Some(Op::Or),
+        _ => None,
     }
 }
 
-// How tightly the operator of a number binds, 0 for 14.
-pub fn level(o: u8) -> u8
-    ensures { result ≡ level_of o }
+// How tightly an operator binds.
+pub fn level(o: Op) -> u8
+    ensures { result ≡ R.level o }
 {
-    if o < 3 {
-        return 7;
+    match o {
+        Op::Mul => 7,
+        Op::Div => 7,
+        Op::Mod => 7,
+        Op::Add => 6,
+        Op::Sub => 6,
+        Op::Lt => 5,
+        Op::Gt => 5,
+        Op::Le => 5,
+        Op::Ge => 5,
+        Op::Eq => 4,
+        Op::Ne => 4,
+        Op::And => 3,
+        Op::Xor => 2,
+        Op::Or => 1,
     }
-    if o < 5 {
-        return 6;
-    }
-    if o < 9 {
-        return 5;
-    }
-    if o < 11 {
-        return 4;
-    }
-    if o < 14 {
-        return 14 - o;
-    }
-    0
 }
 
-// The conversion of a class as 8 times the source's tag and the target's, 0 for a word that is none.
-pub fn conversion(class: u8) -> u16
+// The type that a word of the class names.
+#[tactic(auto, using(crate::proofs::Arms::type_said))]
+pub fn type_named(class: u8) -> Option<Ty>
+    ensures { IsType class result }
+{
+    match class {
+        23 => Some(Ty::Bool),
+        24 => Some(Ty::Int),
+        25 => Some(Ty::Uint),
+        26 => Some(Ty::Dint),
+        27 => Some(Ty::Udint),
+        _ => None,
+    }
+}
+
+// The conversion that a word of the class is, as 8 times the source's tag and the target's.
+#[tactic(auto, using(crate::proofs::Arms::conversion_said))]
+pub fn conversion(class: u8) -> Option<u16>
     ensures { IsConversion class result }
 {
     match class {
-        35 => 10,
-        36 => 11,
-        37 => 12,
-        38 => 17,
-        39 => 19,
-        40 => 20,
-        41 => 25,
-        42 => 26,
-        43 => 28,
-        44 => 33,
-        45 => 34,
-        46 => 35,
-        _ => 0,
+        35 => Some(10),
+        36 => Some(11),
+        37 => Some(12),
+        38 => Some(17),
+        39 => Some(19),
+        40 => Some(20),
+        41 => Some(25),
+        42 => Some(26),
+        43 => Some(28),
+        44 => Some(33),
+        45 => Some(34),
+        46 => Some(35),
+        _ => None,
     }
 }

@@ -3,7 +3,10 @@
 #![tactic(auto)]
 
 ghost use Rattle.std.specs.Prelude.{◌≡◌, ◌+◌, ◌*◌, ◌%◌, ◌/◌, ◌<◌, ◌≤◌, length};
+ghost use Rattle.paper.specs.declared.Why.TheVariants.{BadShape, TooDeep};
+ghost use Rattle.paper.specs.Refusals.{refusal};
 ghost use Rattle.words.specs.Denoted.{IsWord};
+ghost use Rattle.tree.specs.Nodes.{written};
 ghost use Rattle.expressions.specs.Reads.{Room, ExpectDid, ExpectedDid, OperandDid, SignedDid, PrimaryDid, WrappedDid, BracketedDid, NamedDid, ExpressionDid, JoinedDid};
 
 pub mod classes;
@@ -11,109 +14,128 @@ pub mod classes;
 use classes::{
     FALSE, MINUS, NOT, ROUND, ROUND_END, SQUARE, SQUARE_END, TRUE, conversion, level, operator,
 };
+use paper::{Refusal, Why};
 use tree::put;
 use words::{NAME, NUMBER, Word, next_word};
 
-// What reading answers: code 0, the place behind what was read, the last node and the root; or a refusal's number and its place.
+// What was read: the place behind it, the last node and the root.
 #[derive(Clone, Copy)]
 pub struct Parsed {
-    pub code: u8,
     pub at: usize,
     pub count: usize,
     pub root: usize,
 }
 
-pub fn broken(at: usize, count: usize) -> Parsed
-    ensures { result ≡ record { code = 3; at = at; count = count; root = 0 } }
+// Refusal 3.
+pub fn broken(at: usize) -> Refusal
+    ensures { result ≡ refusal BadShape at }
 {
-    Parsed {
-        code: 3,
-        at,
-        count,
-        root: 0,
+    Refusal {
+        why: Why::BadShape,
+        place: at,
     }
 }
 
-pub fn too_deep(at: usize, count: usize) -> Parsed
-    ensures { result ≡ record { code = 4; at = at; count = count; root = 0 } }
+// Refusal 4.
+pub fn too_deep(at: usize) -> Refusal
+    ensures { result ≡ refusal TooDeep at }
 {
-    Parsed {
-        code: 4,
-        at,
-        count,
-        root: 0,
+    Refusal {
+        why: Why::TooDeep,
+        place: at,
     }
 }
 
-// The word of a class, which must come next.
-pub fn expect(text: &[u8], at: usize, class: u8, count: usize) -> Parsed
+// The place behind the word of a class, which must come next.
+pub fn expect(text: &[u8], at: usize, class: u8) -> Result<usize, Refusal>
     requires { (length text.now ≤ 8192) × (at ≤ length text.now) }
-    ensures { ExpectDid text.now at class count result }
+    ensures { ExpectDid text.now at class result }
 {
-    expected(next_word(text, at), class, count)
+    expected(next_word(text, at), class)
 }
 
-// The word `w`, which must be of a class.
-pub fn expected(w: Word, class: u8, count: usize) -> Parsed
-    ensures { ExpectedDid w class count result }
+// The place behind the word `w`, which must be of a class.
+pub fn expected(w: Word, class: u8) -> Result<usize, Refusal>
+    ensures { ExpectedDid w class result }
 {
     if w.class == class {
-        Parsed {
-            code: 0,
-            at: w.end,
-            count,
-            root: 0,
-        }
+        Ok(w.end)
     } else {
-        broken(w.at, count)
+        Err(broken(w.at))
     }
 }
 
-// A number's value in two words.
-pub fn low(v: u32) -> u16
-    ensures { result ≡ v % 65536 }
+// A node behind the last of a pool, of a kind and three words; `at` is the place behind the words that it stands for.
+pub fn node(
+    pool: &mut [u16],
+    at: usize,
+    count: usize,
+    kind: u16,
+    a: usize,
+    b: usize,
+    c: usize,
+) -> Parsed
+    requires room { 4 * (count + 1) + 4 ≤ length pool.old }
+    requires first { a < 65536 }
+    requires second { b < 65536 }
+    requires third { c < 65536 }
+    ensures written { pool.new ≡ written pool.old (count + 1) kind a b c }
+    ensures read { result ≡ record { at = at; count = count + 1; root = count + 1 } }
 {
-    (v % 65536) as u16
-}
-
-pub fn high(v: u32) -> u16
-    ensures { result ≡ v / 65536 }
-{
-    (v / 65536) as u16
-}
-
-// A node just written: the place behind its words and its number.
-pub fn leaf(at: usize, n: usize) -> Parsed
-    ensures { result ≡ record { code = 0; at = at; count = n; root = n } }
-{
+    put(pool, count + 1, kind, a as u16, b as u16, c as u16);
     Parsed {
-        code: 0,
         at,
-        count: n,
-        root: n,
+        count: count + 1,
+        root: count + 1,
     }
+}
+
+// The node of a number at `place`, its value in two words: kind 1, or 2 for one below 0.
+pub fn number_node(
+    pool: &mut [u16],
+    at: usize,
+    count: usize,
+    kind: u16,
+    value: u32,
+    place: usize,
+) -> Parsed
+    requires room { 4 * (count + 1) + 4 ≤ length pool.old }
+    requires place { place < 65536 }
+    ensures written { pool.new ≡ written pool.old (count + 1) kind (value % 65536) (value / 65536) place }
+    ensures read { result ≡ record { at = at; count = count + 1; root = count + 1 } }
+{
+    let low = (value % 65536) as usize;
+    let high = (value / 65536) as usize;
+    node(pool, at, count, kind, low, high, place)
 }
 
 // An operand: at most one unary sign; a minus before a number makes it negative.
 #[cycle(reading)]
-pub fn operand(text: &[u8], at: usize, nest: usize, pool: &mut [u16], count: usize) -> Parsed
+pub fn operand(
+    text: &[u8],
+    at: usize,
+    nest: usize,
+    pool: &mut [u16],
+    count: usize,
+) -> Result<Parsed, Refusal>
     requires { Room text.now pool.old at count }
     ensures { OperandDid text.now pool.old pool.new at nest count result }
 {
     let w = next_word(text, at);
-    if w.class == MINUS {
-        let v = next_word(text, w.end);
-        if v.class == NUMBER {
-            put(pool, count + 1, 2, low(v.value), high(v.value), w.at as u16);
-            return leaf(v.end, count + 1);
+    match w.class {
+        MINUS => {
+            let v = next_word(text, w.end);
+            if v.class == NUMBER {
+                return Ok(number_node(pool, v.end, count, 2, v.value, w.at));
+            }
+            signed(text, w.end, v, nest, pool, count, 7, w.at)
         }
-        return signed(text, w.end, v, nest, pool, count, 7, w.at);
+        NOT => {
+            let v = next_word(text, w.end);
+            signed(text, w.end, v, nest, pool, count, 8, w.at)
+        }
+        _ => primary(text, at, w, nest, pool, count),
     }
-    if w.class == NOT {
-        let v = next_word(text, w.end);
-        return signed(text, w.end, v, nest, pool, count, 8, w.at);
-    }
-    primary(text, at, w, nest, pool, count)
 }
 
 // What a unary sign at `place` stands before; its first word is `w`.
@@ -127,16 +149,12 @@ fn signed(
     count: usize,
     kind: u16,
     place: usize,
-) -> Parsed
+) -> Result<Parsed, Refusal>
     requires { Room text.now pool.old at (count + 1) × IsWord text.now at w × (place < at) × (7 ≤ kind) × (kind ≤ 8) }
     ensures { SignedDid text.now pool.old pool.new at nest count kind place result }
 {
-    let r = primary(text, at, w, nest, pool, count);
-    if r.code != 0 {
-        return r;
-    }
-    put(pool, r.count + 1, kind, r.root as u16, 0, place as u16);
-    leaf(r.at, r.count + 1)
+    let r = primary(text, at, w, nest, pool, count)?;
+    Ok(node(pool, r.at, r.count, kind, r.root, 0, place))
 }
 
 // A number, a truth value, a name with or without subscript, a conversion, brackets; `w` is its first word.
@@ -148,31 +166,23 @@ pub fn primary(
     nest: usize,
     pool: &mut [u16],
     count: usize,
-) -> Parsed
+) -> Result<Parsed, Refusal>
     requires { Room text.now pool.old at count × IsWord text.now at w }
     ensures { PrimaryDid text.now pool.old pool.new at nest count result }
 {
-    if w.class == NAME {
-        return named(text, w.at, w.end, nest, pool, count);
+    match w.class {
+        NAME => named(text, w.at, w.end, nest, pool, count),
+        NUMBER => Ok(number_node(pool, w.end, count, 1, w.value, w.at)),
+        TRUE => Ok(node(pool, w.end, count, 4, 0, 0, w.at)),
+        FALSE => Ok(node(pool, w.end, count, 3, 0, 0, w.at)),
+        _ => match conversion(w.class) {
+            Some(c) => {
+                let v = next_word(text, w.end);
+                wrapped(text, w.end, v, nest, pool, count, 10, c, w.at)
+            }
+            None => wrapped(text, at, w, nest, pool, count, 9, 0, w.at),
+        },
     }
-    if w.class == NUMBER {
-        put(pool, count + 1, 1, low(w.value), high(w.value), w.at as u16);
-        return leaf(w.end, count + 1);
-    }
-    if w.class == TRUE {
-        put(pool, count + 1, 4, 0, 0, w.at as u16);
-        return leaf(w.end, count + 1);
-    }
-    if w.class == FALSE {
-        put(pool, count + 1, 3, 0, 0, w.at as u16);
-        return leaf(w.end, count + 1);
-    }
-    let c = conversion(w.class);
-    if c == 0 {
-        return wrapped(text, at, w, nest, pool, count, 9, 0, w.at);
-    }
-    let v = next_word(text, w.end);
-    wrapped(text, w.end, v, nest, pool, count, 10, c, w.at)
 }
 
 // Brackets that begin with `w`, or a conversion's, under a node of their own at `place`.
@@ -187,44 +197,36 @@ fn wrapped(
     kind: u16,
     b: u16,
     place: usize,
-) -> Parsed
+) -> Result<Parsed, Refusal>
     requires { Room text.now pool.old at count × IsWord text.now at w × (place < 65536) × (9 ≤ kind) × (kind ≤ 10) }
     ensures { WrappedDid text.now pool.old pool.new at nest count kind b place result }
 {
-    let r = bracketed(text, at, w, nest, pool, count);
-    if r.code != 0 {
-        return r;
-    }
-    put(pool, r.count + 1, kind, r.root as u16, b, place as u16);
-    leaf(r.at, r.count + 1)
+    let r = bracketed(text, at, w, nest, pool, count)?;
+    Ok(node(pool, r.at, r.count, kind, r.root, b as usize, place))
 }
 
 // ( expression ), if the word `w` opens it.
 #[cycle(reading)]
-fn bracketed(text: &[u8], at: usize, w: Word, nest: usize, pool: &mut [u16], count: usize) -> Parsed
+fn bracketed(
+    text: &[u8],
+    at: usize,
+    w: Word,
+    nest: usize,
+    pool: &mut [u16],
+    count: usize,
+) -> Result<Parsed, Refusal>
     requires { Room text.now pool.old at count × IsWord text.now at w }
     ensures { BracketedDid text.now pool.old pool.new at nest count result }
 {
     if w.class != ROUND {
-        return broken(w.at, count);
+        return Err(broken(w.at));
     }
     if 64 <= nest {
-        return too_deep(w.at, count);
+        return Err(too_deep(w.at));
     }
-    let r = expression(text, w.end, 1, nest + 1, pool, count);
-    if r.code != 0 {
-        return r;
-    }
-    let e = expect(text, r.at, ROUND_END, r.count);
-    if e.code != 0 {
-        return e;
-    }
-    Parsed {
-        code: 0,
-        at: e.at,
-        count: r.count,
-        root: r.root,
-    }
+    let r = expression(text, w.end, 1, nest + 1, pool, count)?;
+    let end = expect(text, r.at, ROUND_END)?;
+    Ok(Parsed { at: end, ..r })
 }
 
 // A name that stands from `place` to `end`, with one subscript or none.
@@ -236,35 +238,20 @@ fn named(
     nest: usize,
     pool: &mut [u16],
     count: usize,
-) -> Parsed
+) -> Result<Parsed, Refusal>
     requires { Room text.now pool.old end (count + 1) × (place < end) }
     ensures { NamedDid text.now pool.old pool.new end place nest count result }
 {
     let w = next_word(text, end);
     if w.class != SQUARE {
-        put(pool, count + 1, 5, 0, 0, place as u16);
-        return leaf(end, count + 1);
+        return Ok(node(pool, end, count, 5, 0, 0, place));
     }
     if 64 <= nest {
-        return too_deep(w.at, count);
+        return Err(too_deep(w.at));
     }
-    let r = expression(text, w.end, 1, nest + 1, pool, count);
-    if r.code != 0 {
-        return r;
-    }
-    let e = expect(text, r.at, SQUARE_END, r.count);
-    if e.code != 0 {
-        return e;
-    }
-    put(
-        pool,
-        r.count + 1,
-        6,
-        r.root as u16,
-        w.at as u16,
-        place as u16,
-    );
-    leaf(e.at, r.count + 1)
+    let r = expression(text, w.end, 1, nest + 1, pool, count)?;
+    let behind = expect(text, r.at, SQUARE_END)?;
+    Ok(node(pool, behind, r.count, 6, r.root, w.at, place))
 }
 
 // Operands joined by operators that bind at least as tightly as `least`.
@@ -276,62 +263,45 @@ pub fn expression(
     nest: usize,
     pool: &mut [u16],
     count: usize,
-) -> Parsed
+) -> Result<Parsed, Refusal>
     requires { Room text.now pool.old at count × (0 < least) }
     ensures { ExpressionDid text.now pool.old pool.new at least nest count result }
 {
-    let r = operand(text, at, nest, pool, count);
-    if r.code != 0 {
-        return r;
-    }
-    joined(text, r.at, least, nest, pool, r.count, r.root)
+    let r = operand(text, at, nest, pool, count)?;
+    joined(text, r, least, nest, pool)
 }
 
-// What follows the operand at the node `left`; equal operators group to the left. A loop, so that a long chain takes no more stack.
+// The operand `first` with what follows it; equal operators group to the left. A loop, so that a long chain takes no more stack.
 #[cycle(reading)]
 fn joined(
     text: &[u8],
-    at: usize,
+    first: Parsed,
     least: u8,
     nest: usize,
     pool: &mut [u16],
-    count: usize,
-    left: usize,
-) -> Parsed
-    requires { Room text.now pool.old at count × (0 < least) × (left ≤ count) }
-    ensures { JoinedDid text.now pool.old pool.new at least nest count left result }
+) -> Result<Parsed, Refusal>
+    requires { Room text.now pool.old first.at first.count × (0 < least) × (first.root ≤ first.count) }
+    ensures { JoinedDid text.now pool.old pool.new first.at least nest first.count first.root result }
 {
-    let mut end = at;
-    let mut last = count;
-    let mut root = left;
+    let mut left = first;
     loop {
-        let w = next_word(text, end);
-        let o = operator(w.class);
+        let w = next_word(text, left.at);
+        let Some(o) = operator(w.class) else {
+            return Ok(left);
+        };
         let l = level(o);
         if l < least {
-            break;
+            return Ok(left);
         }
-        let r = expression(text, w.end, l + 1, nest, pool, last);
-        if r.code != 0 {
-            return r;
-        }
-        let n = r.count + 1;
-        put(
+        let r = expression(text, w.end, l + 1, nest, pool, left.count)?;
+        left = node(
             pool,
-            n,
+            r.at,
+            r.count,
             11 + (o as u16),
-            root as u16,
-            r.root as u16,
-            w.at as u16,
+            left.root,
+            r.root,
+            w.at,
         );
-        end = r.at;
-        last = n;
-        root = n;
-    }
-    Parsed {
-        code: 0,
-        at: end,
-        count: last,
-        root,
     }
 }

@@ -3,22 +3,27 @@ use mathlib.Core.Path.{◌≡◌, refl, sym, ap, subst, ◌∙◌, fun_ext}
 use mathlib.Core.List.{List, ◌++◌}
 use Prim.Native.Nat.{ℕ, ◌+◌, ◌*◌, ◌≤◌, ◌<◌}
 use native.Mathlib.Omega.{arith}
-use lib.ListN.{length}
+use lib.ListN.{length, get_or}
+use denote.Enum.Declared.{tag_of}
+use Rattle.paper.specs.contracts.Kind.{the_type}
 use Rattle.paper.specs.declared.Kind.{Kind}
+use Rattle.paper.specs.declared.Kind.TheVariants.{Input, Output, Other}
+use Rattle.std.specs.Prelude.{Result, Ok, Err}
+use Rattle.paper.specs.declared.Refusal.{Refusal}
 use Rattle.paper.specs.Refusals.{Answer, given, ◌>>=◌}
 use Rattle.paper.specs.Words.{Token}
 use Rattle.paper.specs.Source.{Named, Declared}
 use Rattle.paper.specs.Reading as R
 use Rattle.paper.specs.Reading.{Read, ok}
 use Rattle.words.specs.Denoted.{words_at}
-use Rattle.tree.specs.Nodes.{Same, written}
-use Rattle.tree.specs.Trees.{names_at, declaration_at}
+use Rattle.tree.specs.Nodes.{written}
+use Rattle.tree.specs.Trees.{kinds, names_at, declaration_at}
 use Rattle.tree.proofs.Puts.{written_same}
 use Rattle.tree.proofs.Frames.{names_same, names_nil}
 use Rattle.tree.proofs.Forms.{put_declaration}
 use Rattle.expressions.specs.declared.Parsed.{Parsed}
-use Rattle.expressions.specs.Reads.{Answered, Room, ExpectDid}
-use Rattle.reader.specs.Declarations.{kind_is, Typing, typing_at, typing_of, TypingDid, NamesDid, DeclarationDid}
+use Rattle.expressions.specs.Reads.{Answered, ExpectDid}
+use Rattle.reader.specs.Declarations.{Typing, typing_at, typing_of, TypingDid, NamesDid, DeclarationDid}
 use Rattle.expressions.proofs.Nodes.{both_same}
 use Rattle.expressions.proofs.Tokens.{key_colon}
 use Rattle.expressions.proofs.Answers.{bind_bad, bind_good}
@@ -58,84 +63,88 @@ unfolding R.declaration
 declaration_is f k ts =
     ap (λ h. R.names f ts >>= h) (fun_ext (λ ns. ap (λ h. R.expect ":" ns.rest >>= h) (fun_ext (λ us. flat k ns.it us))))
 
-module _ {t old m1 : List ℕ} {at n : ℕ} (k : ℕ) {q : Parsed} (room : Room t old at n) (low : k < 3) (Q : NamesDid t old m1 at n 0 q) where
-  pub declaration_1 : (q.code ≡ 0 → ⊥) → DeclarationDid t old m1 at k n q
-  declaration_1 z = (
+-- a kind's place among the three
+kind_number : (k : Kind) → get_or kinds (tag_of the_type k) Other ≡ k
+kind_number Input = refl
+kind_number Output = refl
+kind_number Other = refl
+
+module _ {t old m1 : List ℕ} {at n : ℕ} (k : Kind) where
+  pub declaration_1 : {y : Refusal} → NamesDid t old m1 at n 0 (Err y) → DeclarationDid t old m1 at k n (Err y)
+  declaration_1 {y} Q = (
     record {
       within = Q.within;
       same = Q.same;
-      runs = λ ts h f l. rw (declaration_is f (kind_is k) ts)
+      runs = λ ts h f l. rw (declaration_is f k ts)
           (made_bad (declaration_at t m1) t 1 (length ts) (names_at t m1) 1 (length ts) (R.names f ts) (λ x. names_at t old 0 ++ x)
-          (λ ns. behind_names (kind_is k) ns.it ns.rest) q (Q.runs ts h f (omega arith)) z);
+          (λ ns. behind_names k ns.it ns.rest) y (Q.runs ts h f (omega arith)));
     },
-    omega (arith, Q.within),
+    tt,
   )
 
-  module _ {c : Parsed} (zq : q.code ≡ 0) (C : ExpectDid t q.at 59 q.count c) where
-    to_colon : (D : ℕ → List Declared) (r : Parsed) (ts : List Token) → words_at t at ≡ given ts → (f : ℕ) → 16 * length ts + 1 < f
-        → ((us : List Token) → words_at t q.at ≡ given us → length us + 1 ≤ length ts → Answered D t 1 (length ts) (behind_names (kind_is k) (names_at t m1 q.root) us) r)
-        → Answered D t 1 (length ts) (R.declaration f (kind_is k) ts) r
+  module _ {q : Parsed} (Q : NamesDid t old m1 at n 0 (Ok q)) where
+    to_colon : (D : ℕ → List Declared) (r : Result Parsed Refusal) (ts : List Token) → words_at t at ≡ given ts → (f : ℕ) → 16 * length ts + 1 < f
+        → ((us : List Token) → words_at t q.at ≡ given us → length us + 1 ≤ length ts → Answered D t 1 (length ts) (behind_names k (names_at t m1 q.root) us) r)
+        → Answered D t 1 (length ts) (R.declaration f k ts) r
     to_colon D r ts h f l g =
-        rw (declaration_is f (kind_is k) ts)
+        rw (declaration_is f k ts)
         (made_good D t 1 (length ts) (names_at t m1) 1 (length ts) (R.names f ts) (λ x. names_at t old 0 ++ x)
-        (λ ns. behind_names (kind_is k) ns.it ns.rest) q r (Q.runs ts h f (omega arith)) zq
-        (λ ns us x w m. subst (λ y. Answered D t 1 (length ts) (behind_names (kind_is k) y us) r) (x ∙ ap (λ y. y ++ ns) (names_nil t old)) (g us w m)))
+        (λ ns. behind_names k ns.it ns.rest) q r (Q.runs ts h f (omega arith))
+        (λ ns us x w m. subst (λ y. Answered D t 1 (length ts) (behind_names k y us) r) (x ∙ ap (λ y. y ++ ns) (names_nil t old)) (g us w m)))
 
-    pub declaration_2 : (c.code ≡ 0 → ⊥) → DeclarationDid t old m1 at k n c
-    declaration_2 z = (
+    pub declaration_2 : {y : Refusal} → ExpectDid t q.at 59 (Err y) → DeclarationDid t old m1 at k n (Err y)
+    declaration_2 {y} C = (
       record {
         within = omega (arith, Q.within, C.within);
         same = Q.same;
-        runs = λ ts h f l. to_colon (declaration_at t m1) c ts h f l
-            (λ us w g. expect_bad C ":" key_colon (declaration_at t m1) 1 (length ts) (behind_colon (kind_is k) (names_at t m1 q.root)) us w z);
+        runs = λ ts h f l. to_colon (declaration_at t m1) (Err y) ts h f l
+            (λ us w g. expect_bad C ":" key_colon (declaration_at t m1) 1 (length ts) (behind_colon k (names_at t m1 q.root)) us w);
       },
-      omega (arith, Q.within, C.within),
+      tt,
     )
 
-    module _ {m2 : List ℕ} {y : Parsed} (zc : c.code ≡ 0) (Y : TypingDid t m1 m2 c.at k q.count y) where
-      to_typing : (D : ℕ → List Declared) (r : Parsed) (ts : List Token) → words_at t at ≡ given ts → (f : ℕ) → 16 * length ts + 1 < f
-          → ((us : List Token) → words_at t c.at ≡ given us → length us + 1 ≤ length ts → Answered D t 1 (length ts) (behind_colon (kind_is k) (names_at t m1 q.root) us) r)
-          → Answered D t 1 (length ts) (R.declaration f (kind_is k) ts) r
+    module _ {c : ℕ} (C : ExpectDid t q.at 59 (Ok c)) where
+      to_typing : (D : ℕ → List Declared) (r : Result Parsed Refusal) (ts : List Token) → words_at t at ≡ given ts → (f : ℕ) → 16 * length ts + 1 < f
+          → ((us : List Token) → words_at t c ≡ given us → length us + 1 ≤ length ts → Answered D t 1 (length ts) (behind_colon k (names_at t m1 q.root) us) r)
+          → Answered D t 1 (length ts) (R.declaration f k ts) r
       to_typing D r ts h f l g =
           to_colon D r ts h f l
-          (λ us w m. expect_good C ":" key_colon D 1 (length ts) (behind_colon (kind_is k) (names_at t m1 q.root)) us w r zc (λ vs x o. g vs x (omega arith)))
+          (λ us w m. expect_good C ":" key_colon D 1 (length ts) (behind_colon k (names_at t m1 q.root)) us w r (λ vs x o. g vs x (omega arith)))
 
-      kept' : Same n old m2
-      kept' = both_same n q.count old m1 m2 Q.same Q.within.more Y.0.same
-
-      pub declaration_3 : (y.code ≡ 0 → ⊥) → DeclarationDid t old m2 at k n y
-      declaration_3 z = (
+      pub declaration_3 : {m2 : List ℕ} {y : Refusal} → TypingDid t m1 m2 c k q.count (Err y) → DeclarationDid t old m2 at k n (Err y)
+      declaration_3 {m2} {y} Y = (
         record {
           within = omega (arith, Q.within, C.within, Y.0.within);
-          same = kept';
-          runs = λ ts h f l. to_typing (declaration_at t m2) y ts h f l
+          same = both_same n q.count old m1 m2 Q.same Q.within.more Y.0.same;
+          runs = λ ts h f l. to_typing (declaration_at t m2) (Err y) ts h f l
               (λ us w g.
-              bind_bad (declaration_at t m2) t 1 (length ts) (typing_at m2) 1 (length us) (typing_of (kind_is k) us)
-              (λ x. ok (declare_of (kind_is k) (names_at t m1 q.root) x.it) x.rest) y (Y.0.runs us w (16 * length us + 1) (omega arith)) z);
+              bind_bad (declaration_at t m2) t 1 (length ts) (typing_at m2) 1 (length us) (typing_of k us)
+              (λ x. ok (declare_of k (names_at t m1 q.root) x.it) x.rest) y (Y.0.runs us w (16 * length us + 1) (omega arith)));
         },
-        omega (arith, Q.within, C.within, Y.0.within),
+        tt,
       )
 
-      pub declaration_4 : {new : List ℕ} {r : Parsed} → y.code ≡ 0 → 4 * (y.count + 1) + 4 ≤ length m2
-          → new ≡ written m2 (y.count + 1) 38 q.root y.root k
-          → r ≡ record { code = 0; at = y.at; count = y.count + 1; root = y.count + 1 } → DeclarationDid t old new at k n r
-      declaration_4 {new} {r} zy fits en er =
+      pub declaration_4 : {m2 : List ℕ} {y : Parsed} → TypingDid t m1 m2 c k q.count (Ok y) → {new : List ℕ} → 4 * (y.count + 1) + 4 ≤ length m2
+          → new ≡ written m2 (y.count + 1) 38 q.root y.root (tag_of the_type k)
+          → DeclarationDid t old new at k n (Ok (record { at = y.at; count = y.count + 1; root = y.count + 1 }))
+      declaration_4 {m2} {y} Y {new} fits en =
           let N = y.count + 1 in
           let lq : q.root < N = omega (arith, Q.within, Y.0.within) in
           let ly : y.root < N = omega (arith, Y.0.within) in
-          let node : declaration_at t new N ≡ declare_of (kind_is k) (names_at t m1 q.root) (typing_at m2 y.root) =
+          let node : declaration_at t new N ≡ declare_of k (names_at t m1 q.root) (typing_at m2 y.root) =
           rw en
-          (put_declaration t m2 N q.root y.root k (omega arith) fits lq ly
-          ∙ ap (λ ns. declare_of (kind_is k) ns (typing_at m2 y.root)) (names_same t m1 m2 q.count q.root Y.0.same Q.within.rooted)) in
-          rw er (
+          (put_declaration t m2 N q.root y.root (tag_of the_type k) (omega arith) fits lq ly
+          ∙ ap (λ x. R.declare x (typing_at m2 y.root).ty (typing_at m2 y.root).bounds (typing_at m2 y.root).initial (names_at t m2 q.root)) (kind_number k)
+          ∙ ap (λ ns. declare_of k ns (typing_at m2 y.root)) (names_same t m1 m2 q.count q.root Y.0.same Q.within.rooted)) in (
             record {
               within = omega (arith, Q.within, C.within, C.step refl refl, Y.0.within, Y.1);
-              same = both_same n y.count old m2 new kept' (omega (arith, Q.within, Y.0.within)) (rw en (written_same m2 N 38 q.root y.root k y.count (omega arith)));
-              runs = λ ts h f l. to_typing (declaration_at t new) (record { code = 0; at = y.at; count = N; root = N }) ts h f l
+              same = both_same n y.count old m2 new (both_same n q.count old m1 m2 Q.same Q.within.more Y.0.same) (omega (arith, Q.within, Y.0.within))
+                  (rw en (written_same m2 N 38 q.root y.root (tag_of the_type k) y.count (omega arith)));
+              runs = λ ts h f l. to_typing (declaration_at t new) _ ts h f l
                   (λ us w g.
-                  bind_good (declaration_at t new) t 1 (length ts) (typing_at m2) 1 (length us) (typing_of (kind_is k) us)
-                  (λ x. ok (declare_of (kind_is k) (names_at t m1 q.root) x.it) x.rest) y (record { code = 0; at = y.at; count = N; root = N })
-                  (Y.0.runs us w (16 * length us + 1) (omega arith)) zy (λ vs x m. (refl, node, x, omega arith)));
+                  bind_good (declaration_at t new) t 1 (length ts) (typing_at m2) 1 (length us) (typing_of k us)
+                  (λ x. ok (declare_of k (names_at t m1 q.root) x.it) x.rest) y _
+                  (Y.0.runs us w (16 * length us + 1) (omega arith)) (λ vs x m. (node, x, omega arith)));
             },
             omega (arith, Q.within, C.within, C.step refl refl, Y.0.within, Y.1),
           )

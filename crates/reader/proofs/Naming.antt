@@ -8,8 +8,10 @@ use native.Mathlib.Omega.{arith}
 use lib.Dec.{eqb}
 use lib.ListN.{length}
 use borrow.Author.Tests.{eq-eqb, ne_eqb}
+use Rattle.std.specs.Prelude.{Result, Ok, Err}
+use Rattle.paper.specs.declared.Refusal.{Refusal}
 use Rattle.paper.specs.declared.Why.TheVariants.{BadShape}
-use Rattle.paper.specs.Refusals.{Answer, refused, given, ◌>>=◌}
+use Rattle.paper.specs.Refusals.{Answer, refused, given, refusal, ◌>>=◌}
 use Rattle.paper.specs.Words.{Token}
 use Rattle.paper.specs.Source.{Name, Named}
 use Rattle.paper.specs.Reading as R
@@ -21,11 +23,12 @@ use Rattle.tree.specs.Trees.{name_at, names_at}
 use Rattle.tree.proofs.Puts.{written_same}
 use Rattle.tree.proofs.Forms.{put_place, put_wide, put_names}
 use Rattle.expressions.specs.declared.Parsed.{Parsed}
-use Rattle.expressions.specs.Reads.{Answered, Room}
+use Rattle.expressions.specs.Reads.{Answered}
 use Rattle.reader.specs.Declarations.{Natural, natural_at, NumberDid, NamesDid}
 use Rattle.expressions.proofs.Nodes.{both_same}
 use Rattle.expressions.proofs.Tokens.{Next, next_of, name_here, number_class, name_class, key_comma}
 use Rattle.expressions.proofs.Moves.{class_moves}
+use Rattle.expressions.proofs.Reached.{further}
 use Rattle.statements.proofs.Runs.{made_bad, made_good}
 use Rattle.reader.proofs.Answers.{taken_none, taken_some, sees_class, again, refuse, leafed}
 
@@ -34,26 +37,25 @@ use Rattle.reader.proofs.Answers.{taken_none, taken_some, sees_class, again, ref
 number_is : (t : List ℕ) (ts : List Token) (w : Word) → Next t ts w → R.a_number (R.next ts) ≡ cond (eqb w.class 2) (some w.value) none
 number_is t ts w N = ap R.a_number N.next ∙ number_class w.class w.value (folded t w.at w.end)
 
-pub number_bad : {t old : List ℕ} {at n : ℕ} {w : Word} {r : Parsed} → Room t old at n → IsWord t at w → (w.class ≡ 2 → ⊥)
-    → r ≡ record { code = 3; at = w.at; count = n; root = 0 } → NumberDid t old old at n r
-number_bad {t} {old} {at} {n} {w} {r} room i h er =
-    refuse room i er
+pub number_bad : {t old : List ℕ} {at n : ℕ} {w : Word} → IsWord t at w → (w.class ≡ 2 → ⊥) → NumberDid t old old at n (Err (refusal BadShape w.at))
+number_bad {t} {old} {at} {n} {w} i h =
+    refuse i
     (λ ts f l N.
     ap (λ a. a >>= λ x. ok (record { place = R.here ts; value = x.it }) x.rest)
     (taken_none R.a_number ts (number_is t ts w N ∙ ap (λ b. cond b (some w.value) none) (ne_eqb _ _ h))))
 
-pub number_good : {t old new : List ℕ} {at n lo hi : ℕ} {w : Word} {r : Parsed} → IsWord t at w → w.class ≡ 2
-    → lo ≡ w.value % 65536 → hi ≡ w.value / 65536 → 4 * (n + 1) + 4 ≤ length old → new ≡ written old (n + 1) 1 lo hi w.at
-    → r ≡ record { code = 0; at = w.end; count = n + 1; root = n + 1 } → NumberDid t old new at n r
-number_good {t} {old} {new} {at} {n} {lo} {hi} {w} {r} i h el eh fits en er =
-    leafed i (class_moves t at w i 2 h refl refl) (rw h refl) (rw en (written_same old (n + 1) 1 lo hi w.at n (omega arith))) er
+pub number_good : {t old new : List ℕ} {at n : ℕ} {w : Word} → IsWord t at w → w.class ≡ 2
+    → 4 * (n + 1) + 4 ≤ length old → new ≡ written old (n + 1) 1 (w.value % 65536) (w.value / 65536) w.at
+    → NumberDid t old new at n (Ok (record { at = w.end; count = n + 1; root = n + 1 }))
+number_good {t} {old} {new} {at} {n} {w} i h fits en =
+    leafed i (class_moves t at w i 2 h refl refl) (rw h refl) (rw en (written_same old (n + 1) 1 (w.value % 65536) (w.value / 65536) w.at n (omega arith)))
     (λ ts f l g N.
-    let v : lo + 65536 * hi ≡ w.value = omega arith in
+    let v : w.value % 65536 + 65536 * (w.value / 65536) ≡ w.value = omega arith in
     let node : natural_at new (n + 1) ≡ record { place = R.here ts; value = w.value } =
     rw en
     (ap₂ (λ p x. record { place = p; value = x })
-    (put_place old (n + 1) 1 lo hi w.at fits ∙ sym N.here)
-    (put_wide old (n + 1) lo hi w.at (omega arith) fits 1 ∙ v)) in
+    (put_place old (n + 1) 1 (w.value % 65536) (w.value / 65536) w.at fits ∙ sym N.here)
+    (put_wide old (n + 1) (w.value % 65536) (w.value / 65536) w.at (omega arith) fits 1 ∙ v)) in
     ap (λ a. a >>= λ x. ok (record { place = R.here ts; value = x.it }) x.rest)
     (taken_some R.a_number ts w.value (number_is t ts w N ∙ ap (λ b. cond b (some w.value) none) (eq-eqb _ _ h)))
     ∙ ap (λ x. ok x (R.behind ts)) (sym node))
@@ -74,9 +76,8 @@ module _ (f : ℕ) (ts : List Token) (s : Name) (h : R.a_name (R.next ts) ≡ so
   unfolding R.names
   names_two g = rw (taken_some R.a_name ts s h, g, ◌>>=◌)
 
-pub names_bad : {t old : List ℕ} {at n : ℕ} {w : Word} {r : Parsed} (before : ℕ) → Room t old at n → IsWord t at w → (w.class ≡ 1 → ⊥)
-    → r ≡ record { code = 3; at = w.at; count = n; root = 0 } → NamesDid t old old at n before r
-names_bad {t} {old} {at} {n} {w} {r} before room i h er = refuse room i er go
+pub names_bad : {t old : List ℕ} {at n : ℕ} {w : Word} (before : ℕ) → IsWord t at w → (w.class ≡ 1 → ⊥) → NamesDid t old old at n before (Err (refusal BadShape w.at))
+names_bad {t} {old} {at} {n} {w} before i h = refuse i go
   where
     go : (ts : List Token) (f : ℕ) → 16 * length ts + 0 < f → Next t ts w
         → (R.names f ts >>= λ x. ok (names_at t old before ++ x.it) x.rest) ≡ refused BadShape (R.here ts)
@@ -103,8 +104,8 @@ module _ (old : List ℕ) {t new : List ℕ} {at n before : ℕ} {w c : Word} (i
   comma : (ts : List Token) → Next t ts w → R.sees "," (R.behind ts) ≡ eqb c.class 61
   comma ts N = sees_class "," 61 key_comma t (R.behind ts) c (next_of t w.end (R.behind ts) c j (N.behind (rw h refl)))
 
-  pub names_last : {r : Parsed} → (c.class ≡ 61 → ⊥) → r ≡ record { code = 0; at = w.end; count = n + 1; root = n + 1 } → NamesDid t old new at n before r
-  names_last {r} z er = leafed i (class_moves t at w i 1 h refl refl) (rw h refl) kept er go
+  pub names_last : (c.class ≡ 61 → ⊥) → NamesDid t old new at n before (Ok (record { at = w.end; count = n + 1; root = n + 1 }))
+  names_last z = leafed i (class_moves t at w i 1 h refl refl) (rw h refl) kept go
     where
       go : (ts : List Token) (f : ℕ) → 16 * length ts + 0 < f → words_at t at ≡ given ts → Next t ts w
           → (R.names f ts >>= λ x. ok (names_at t old before ++ x.it) x.rest) ≡ ok (names_at t new (n + 1)) (R.behind ts)
@@ -114,10 +115,14 @@ module _ (old : List ℕ) {t new : List ℕ} {at n before : ℕ} {w c : Word} (i
           ∙ ap (λ p. ok (names_at t old before ++ record { place = p; name = name_at t w.at } ∷ []) (R.behind ts)) N.here
           ∙ ap (λ x. ok x (R.behind ts)) (sym named)
 
-  pub names_more : {end : List ℕ} {r : Parsed} → c.class ≡ 61 → NamesDid t new end c.end (n + 1) (n + 1) r → NamesDid t old end at n before r
+  pub names_more : {end : List ℕ} {r : Result Parsed Refusal} → c.class ≡ 61 → NamesDid t new end c.end (n + 1) (n + 1) r → NamesDid t old end at n before r
   names_more {end} {r} z E =
       let moves = class_moves t at w i 1 h refl refl in
-      record { within = omega (arith, E.within); same = both_same n (n + 1) old new end kept (omega arith) E.same; runs = go }
+      record {
+        within = further _ _ _ (record { at = c.end; count = n + 1; root = n + 1 }) (omega (arith, i.from, moves, j.from, j.on, j.to)) r E.within;
+        same = both_same n (n + 1) old new end kept (omega arith) E.same;
+        runs = go;
+      }
     where
       go : (ts : List Token) → words_at t at ≡ given ts → (f : ℕ) → 16 * length ts + 0 < f
           → Answered (names_at t end) t 1 (length ts) (R.names f ts >>= λ x. ok (names_at t old before ++ x.it) x.rest) r
@@ -135,20 +140,19 @@ module _ (old : List ℕ) {t new : List ℕ} {at n before : ℕ} {w c : Word} (i
 
 -- ---- a number in the midst
 
-module _ {t old new : List ℕ} {at n : ℕ} {q : Parsed} (L : NumberDid t old new at n q) {A : Type 0} (D : ℕ → A) (e N : ℕ)
-    (k : Natural → List Token → Answer (Read A)) (us : List Token) (h : words_at t at ≡ given us) where
-  abbrev as_read : ℕ → Natural
-  as_read v = record { place = R.here us; value = v }
+abbrev as_read : List Token → ℕ → Natural
+as_read us v = record { place = R.here us; value = v }
 
-  pub number_then_bad : (q.code ≡ 0 → ⊥) → Answered D t e N (R.taken R.a_number us >>= λ b. k (record { place = R.here us; value = b.it }) b.rest) q
-  number_then_bad z =
-      made_bad D t e N (natural_at new) 1 (length us) (R.taken R.a_number us) as_read (λ b. k (as_read b.it) b.rest) q
-      (L.runs us h (16 * length us + 1) (omega arith)) z
+module _ {t old new : List ℕ} {at n : ℕ} {A : Type 0} (D : ℕ → A) (e N : ℕ) (k : Natural → List Token → Answer (Read A)) (us : List Token) (h : words_at t at ≡ given us) where
+  pub number_then_bad : {y : Refusal} → NumberDid t old new at n (Err y) → Answered D t e N (R.taken R.a_number us >>= λ b. k (record { place = R.here us; value = b.it }) b.rest) (Err y)
+  number_then_bad {y} L =
+      made_bad D t e N (natural_at new) 1 (length us) (R.taken R.a_number us) (as_read us) (λ b. k (as_read us b.it) b.rest) y
+      (L.runs us h (16 * length us + 1) (omega arith))
 
-  pub number_then_good : (r : Parsed) → q.code ≡ 0
+  pub number_then_good : {q : Parsed} → NumberDid t old new at n (Ok q) → (r : Result Parsed Refusal)
       → ((vs : List Token) → words_at t q.at ≡ given vs → length vs + 1 ≤ length us → Answered D t e N (k (natural_at new q.root) vs) r)
       → Answered D t e N (R.taken R.a_number us >>= λ b. k (record { place = R.here us; value = b.it }) b.rest) r
-  number_then_good r z g =
-      made_good D t e N (natural_at new) 1 (length us) (R.taken R.a_number us) as_read (λ b. k (as_read b.it) b.rest) q r
-      (L.runs us h (16 * length us + 1) (omega arith)) z
+  number_then_good {q} L r g =
+      made_good D t e N (natural_at new) 1 (length us) (R.taken R.a_number us) (as_read us) (λ b. k (as_read us b.it) b.rest) q r
+      (L.runs us h (16 * length us + 1) (omega arith))
       (λ b vs x w l. subst (λ y. Answered D t e N (k y vs) r) x (g vs w l))

@@ -8,8 +8,10 @@ use native.Mathlib.Omega.{arith}
 use lib.Dec.{eqb}
 use lib.ListN.{length}
 use borrow.Author.Tests.{ne_eqb}
-use Rattle.paper.specs.declared.Why.TheVariants.{NoWord}
-use Rattle.paper.specs.Refusals.{Answer, refused, given, ◌>>=◌}
+use Rattle.std.specs.Prelude.{Result, Ok, Err}
+use Rattle.paper.specs.declared.Refusal.{Refusal}
+use Rattle.paper.specs.declared.Why.TheVariants.{NoWord, BadShape}
+use Rattle.paper.specs.Refusals.{Answer, refused, given, refusal, ◌>>=◌}
 use Rattle.paper.specs.Words.{Token, words_of}
 use Rattle.paper.specs.Source.{Name, Program}
 use Rattle.paper.specs.Reading as R
@@ -20,7 +22,7 @@ use Rattle.tree.specs.Trees.{name_at, program_at}
 use Rattle.expressions.specs.declared.Parsed.{Parsed}
 use Rattle.expressions.specs.Reads.{Answered, Passed, ExpectDid}
 use Rattle.expressions.proofs.Tokens.{next_of, name_here, name_class, ending_class, key_program}
-use Rattle.paper.proofs.Whys.{code_pos}
+use Rattle.expressions.proofs.Steps.{here}
 use Rattle.expressions.proofs.Answers.{expect_one}
 use Rattle.reader.specs.Declarations.{body_of, BodyDid, IsReading, ProgramDid}
 use Rattle.statements.proofs.Runs.{assoc}
@@ -71,25 +73,28 @@ words_at_lem t ts h = h
 
 module _ (t new : List ℕ) where
   -- a key that was refused, or passed
-  pass_ends : (s : Answer (List Token)) (k : List Token → Answer Program) (r : Parsed) → Passed t s r → (r.code ≡ 0 → ⊥) → IsReading t new (s >>= k) r
-  pass_ends (refused w p) k r a z = a
-  pass_ends (given us) k r a z = absurd (z a.0)
+  pass_ends : (s : Answer (List Token)) (k : List Token → Answer Program) (y : Refusal) → Passed t s (Err y) → IsReading t new (s >>= k) (Err y)
+  pass_ends (refused w p) k y a = ap Err (go a)
+    where
+      go : ◌≡◌ {A = Result ℕ Refusal} (Err y) (Err (refusal w p)) → y ≡ refusal w p
+      go h = cc
+  pass_ends (given us) k y a = absurd a
 
-  pass_goes : (s : Answer (List Token)) (k : List Token → Answer Program) (q r : Parsed) → Passed t s q → q.code ≡ 0
-      → ((us : List Token) → s ≡ given us → words_at t q.at ≡ given us → IsReading t new (k us) r) → IsReading t new (s >>= k) r
-  pass_goes (refused w p) k q r a z g = absurd (code_pos w (sym a.0 ∙ z))
-  pass_goes (given us) k q r a z g = g us refl a.1
+  pass_goes : (s : Answer (List Token)) (k : List Token → Answer Program) (p : ℕ) (r : Result Parsed Refusal) → Passed t s (Ok p)
+      → ((us : List Token) → s ≡ given us → words_at t p ≡ given us → IsReading t new (k us) r) → IsReading t new (s >>= k) r
+  pass_goes (refused w q) k p r a g = let z : ◌≡◌ {A = ℕ} 0 1 = cc in absurd (omega arith)
+  pass_goes (given us) k p r a g = g us refl a
 
   -- the same of the body
-  body_ends : (D : ℕ → Program) (e n : ℕ) (s : Answer (Read Program)) (r : Parsed) → Answered D t e n s r → (r.code ≡ 0 → ⊥) → IsReading t new (s >>= finish) r
-  body_ends D e n (refused w p) r a z = a
-  body_ends D e n (given x) r a z = absurd (z a.0)
+  body_ends : (D : ℕ → Program) (e n : ℕ) (s : Answer (Read Program)) (y : Refusal) → Answered D t e n s (Err y) → IsReading t new (s >>= finish) (Err y)
+  body_ends D e n (refused w p) y a = a
+  body_ends D e n (given x) y a = absurd a
 
-  body_goes : (D : ℕ → Program) (e n : ℕ) (s : Answer (Read Program)) (q r : Parsed) → Answered D t e n s q → q.code ≡ 0
+  body_goes : (D : ℕ → Program) (e n : ℕ) (s : Answer (Read Program)) (q : Parsed) (r : Result Parsed Refusal) → Answered D t e n s (Ok q)
       → ((us : List Token) → words_at t q.at ≡ given us → IsReading t new (finish (record { it = D q.root; rest = us })) r) → IsReading t new (s >>= finish) r
-  body_goes D e n (refused w p) q r a z g = absurd (code_pos w (sym a.0 ∙ z))
-  body_goes D e n (given x) q r a z g =
-      subst (λ y. IsReading t new (finish (record { it = y; rest = x.rest })) r) a.1 (g x.rest a.2)
+  body_goes D e n (refused w p) q r a g = let z : ◌≡◌ {A = ℕ} 0 1 = cc in absurd (omega arith)
+  body_goes D e n (given x) q r a g =
+      subst (λ y. IsReading t new (finish (record { it = y; rest = x.rest })) r) a.0 (g x.rest a.1)
 
 -- ---- whether a text ends
 
@@ -123,104 +128,97 @@ module _ {t : List ℕ} {at : ℕ} {w : Word} (i : IsWord t at w) (ts : List Tok
 
 -- ---- PROGRAM name, and behind it
 
-module _ {t : List ℕ} (old : List ℕ) {h : Parsed} (H : ExpectDid t 0 3 0 h) where
+module _ {t : List ℕ} (old : List ℕ) where
   -- PROGRAM is missing
-  pub program_1 : (h.code ≡ 0 → ⊥) → ProgramDid t old old h
-  program_1 z =
+  pub program_1 : {y : Refusal} → ExpectDid t 0 3 (Err y) → ProgramDid t old old (Err y)
+  program_1 {y} H =
       record {
         inside = H.within.to;
-        few = omega (arith, H.count);
-        rooted = H.within.rooted;
-        root = λ e. absurd (z e);
+        few = tt;
+        root = tt;
         long = refl;
         reads = λ ts w. rw (program_of_is ts)
-            (pass_ends t old (R.expect "PROGRAM" ts) (behind_head (fuel ts)) h (H.taken ts (words_at_lem t ts w) "PROGRAM" key_program) z);
+            (pass_ends t old (R.expect "PROGRAM" ts) (behind_head (fuel ts)) y (H.taken ts (words_at_lem t ts w) "PROGRAM" key_program));
       }
 
-  module _ {n : Word} (zh : h.code ≡ 0) (i : IsWord t h.at n) where
+  module _ {h : ℕ} (H : ExpectDid t 0 3 (Ok h)) {n : Word} (i : IsWord t h n) where
     -- on to the name
-    to_head : (new : List ℕ) (r : Parsed) (ts : List Token) → words_of t ≡ given ts
-        → ((us : List Token) → words_at t h.at ≡ given us → length us ≤ length ts → IsReading t new (behind_head (fuel ts) us) r)
+    to_head : (new : List ℕ) (r : Result Parsed Refusal) (ts : List Token) → words_of t ≡ given ts
+        → ((us : List Token) → words_at t h ≡ given us → length us ≤ length ts → IsReading t new (behind_head (fuel ts) us) r)
         → IsReading t new (R.program_of ts) r
     to_head new r ts w g =
         rw (program_of_is ts)
-        (pass_goes t new (R.expect "PROGRAM" ts) (behind_head (fuel ts)) h r (H.taken ts (words_at_lem t ts w) "PROGRAM" key_program) zh
+        (pass_goes t new (R.expect "PROGRAM" ts) (behind_head (fuel ts)) h r (H.taken ts (words_at_lem t ts w) "PROGRAM" key_program)
         (λ us e x. g us x (omega (arith, expect_one "PROGRAM" ts us e))))
 
     -- the name is missing
-    pub program_2 : {r : Parsed} → (n.class ≡ 1 → ⊥) → r ≡ record { code = 3; at = n.at; count = 0; root = 0 } → ProgramDid t old old r
-    program_2 {r} z er =
-        rw er
-        (record {
+    pub program_2 : (n.class ≡ 1 → ⊥) → ProgramDid t old old (Err (refusal BadShape n.at))
+    program_2 z =
+        record {
           inside = omega (arith, i.on, i.to);
-          few = omega arith;
-          rooted = omega arith;
-          root = λ e. absurd (omega arith);
+          few = tt;
+          root = tt;
           long = refl;
-          reads = λ ts w. to_head old (record { code = 3; at = n.at; count = 0; root = 0 }) ts w
+          reads = λ ts w. to_head old (Err (refusal BadShape n.at)) ts w
               (λ us x m.
-              let N = next_of t h.at us n i x in
+              let N = next_of t h us n i x in
               rw (taken_none R.a_name us (ap R.a_name N.next ∙ name_class n.class n.value (folded t n.at n.end) ∙ ap (λ b. cond b (some (folded t n.at n.end)) none) (ne_eqb n.class 1 z)))
-              (refl, sym N.here));
-        })
+              (here t h n i us x BadShape));
+        }
 
-    module _ {m1 : List ℕ} {b : Parsed} (zn : n.class ≡ 1) (B : BodyDid t old m1 n.end n.at b) (same : length m1 ≡ length old) where
+    module _ (m1 : List ℕ) (zn : n.class ≡ 1) (same : length m1 ≡ length old) where
       -- on to the body
-      to_body : (r : Parsed) (ts : List Token) → words_of t ≡ given ts
+      to_body : (r : Result Parsed Refusal) (ts : List Token) → words_of t ≡ given ts
           → ((us : List Token) → words_at t n.end ≡ given us → length us ≤ length ts → IsReading t m1 (body_of (name_at t n.at) (fuel ts) us >>= finish) r)
           → IsReading t m1 (R.program_of ts) r
       to_body r ts w g =
           to_head m1 r ts w
           (λ us x m.
-          let N = next_of t h.at us n i x in
+          let N = next_of t h us n i x in
           let less = N.less (rw zn refl) in
-          rw (taken_some R.a_name us (name_at t n.at) (ap R.a_name (name_here t h.at us n i x zn))) (g (R.behind us) (N.behind (rw zn refl)) (omega arith)))
+          rw (taken_some R.a_name us (name_at t n.at) (ap R.a_name (name_here t h us n i x zn))) (g (R.behind us) (N.behind (rw zn refl)) (omega arith)))
 
       -- the body is refused
-      pub program_3 : (b.code ≡ 0 → ⊥) → ProgramDid t old m1 b
-      program_3 z =
+      pub program_3 : {y : Refusal} → BodyDid t old m1 n.end n.at (Err y) → ProgramDid t old m1 (Err y)
+      program_3 {y} B =
           record {
             inside = B.0.within.to;
-            few = omega (arith, B.0.within);
-            rooted = B.0.within.rooted;
-            root = B.1;
+            few = tt;
+            root = tt;
             long = same;
-            reads = λ ts w. to_body b ts w
-                (λ us x m. body_ends t m1 (program_at t m1) 1 (length us) (body_of (name_at t n.at) (fuel ts) us) b (B.0.runs us x (fuel ts) (omega arith)) z);
+            reads = λ ts w. to_body (Err y) ts w
+                (λ us x m. body_ends t m1 (program_at t m1) 1 (length us) (body_of (name_at t n.at) (fuel ts) us) y (B.0.runs us x (fuel ts) (omega arith)));
           }
 
-      module _ {e : Word} (zb : b.code ≡ 0) (j : IsWord t b.at e) where
+      module _ {b : Parsed} (B : BodyDid t old m1 n.end n.at (Ok b)) {e : Word} (j : IsWord t b.at e) where
         -- on to what stands behind END_PROGRAM
-        to_ending : (r : Parsed) (ts : List Token) → words_of t ≡ given ts
+        to_ending : (r : Result Parsed Refusal) (ts : List Token) → words_of t ≡ given ts
             → ((us : List Token) → words_at t b.at ≡ given us → IsReading t m1 (finish (record { it = program_at t m1 b.root; rest = us })) r)
             → IsReading t m1 (R.program_of ts) r
         to_ending r ts w g =
             to_body r ts w
-            (λ us x m. body_goes t m1 (program_at t m1) 1 (length us) (body_of (name_at t n.at) (fuel ts) us) b r (B.0.runs us x (fuel ts) (omega arith)) zb g)
+            (λ us x m. body_goes t m1 (program_at t m1) 1 (length us) (body_of (name_at t n.at) (fuel ts) us) b r (B.0.runs us x (fuel ts) (omega arith)) g)
 
         -- something stands behind it
-        pub program_4 : {r : Parsed} → (e.class ≡ 0 → ⊥) → r ≡ record { code = 3; at = e.at; count = b.count; root = 0 } → ProgramDid t old m1 r
-        program_4 {r} z er =
-            rw er
-            (record {
+        pub program_4 : (e.class ≡ 0 → ⊥) → ProgramDid t old m1 (Err (refusal BadShape e.at))
+        program_4 z =
+            record {
               inside = omega (arith, j.on, j.to);
-              few = omega (arith, B.0.within);
-              rooted = omega arith;
-              root = λ q. absurd (omega arith);
+              few = tt;
+              root = tt;
               long = same;
-              reads = λ ts w. to_ending (record { code = 3; at = e.at; count = b.count; root = 0 }) ts w
-                  (λ us x. rw (unfinished (record { it = program_at t m1 b.root; rest = us }) (goes_on j us x z)) (refl, sym (next_of t b.at us e j x).here));
-            })
+              reads = λ ts w. to_ending (Err (refusal BadShape e.at)) ts w
+                  (λ us x. rw (unfinished (record { it = program_at t m1 b.root; rest = us }) (goes_on j us x z)) (here t b.at e j us x BadShape));
+            }
 
         -- nothing does
-        pub program_5 : e.class ≡ 0 → ProgramDid t old m1 b
+        pub program_5 : e.class ≡ 0 → ProgramDid t old m1 (Ok b)
         program_5 z =
             record {
               inside = B.0.within.to;
               few = omega (arith, B.0.within);
-              rooted = B.0.within.rooted;
               root = B.1;
               long = same;
-              reads = λ ts w. to_ending b ts w
-                  (λ us x. rw (finished (record { it = program_at t m1 b.root; rest = us }) (ends j us x z)) (zb, refl));
+              reads = λ ts w. to_ending (Ok b) ts w
+                  (λ us x. rw (finished (record { it = program_at t m1 b.root; rest = us }) (ends j us x z)) refl);
             }

@@ -1,48 +1,28 @@
 // The refusals 1 to 4 of a text, one after another.
 #![tactic(auto)]
 
-ghost use Rattle.shaped.specs.Shapes.{TreeFits, ShapeDid};
+ghost use Rattle.paper.specs.Refusals.{Gives};
+ghost use Rattle.shaped.specs.Shapes.{Stands, TreeFits, shaped};
 
-use words::FirstBad;
+use paper::{Refusal, Why};
 
-// A refusal's number and its place; 0 and 0 where the text is well shaped, and then the root of its tree.
-#[derive(Clone, Copy)]
-pub struct Shape {
-    pub number: u64,
-    pub place: u64,
-    pub root: usize,
-}
-
-// The first of the refusals 1 to 4 of a text.
-pub fn shape_of(text: &[u8], pool: &mut [u16]) -> Shape
+// The root of a text's tree, or the first of the refusals 1 to 4.
+pub fn shape_of(text: &[u8], pool: &mut [u16]) -> Result<usize, Refusal>
     requires { TreeFits text.now pool.old }
-    ensures { ShapeDid text.now pool.new result }
+    ensures { Gives (Stands text.now pool.new) (shaped text.now) result }
 {
     if 8192 < text.len() {
-        return Shape {
-            number: 1,
+        return Err(Refusal {
+            why: Why::TooLong,
             place: 0,
-            root: 0,
-        };
+        });
     }
-    if let FirstBad::At(p) = words::first_bad(text) {
-        return Shape {
-            number: 2,
-            place: p as u64,
-            root: 0,
-        };
+    if let Some(place) = words::first_bad(text) {
+        return Err(Refusal {
+            why: Why::NoWord,
+            place,
+        });
     }
-    let r = reader::program(text, pool);
-    if r.code == 0 {
-        return Shape {
-            number: 0,
-            place: 0,
-            root: r.root,
-        };
-    }
-    Shape {
-        number: r.code as u64,
-        place: r.at as u64,
-        root: 0,
-    }
+    let parsed = reader::program(text, pool)?;
+    Ok(parsed.root)
 }

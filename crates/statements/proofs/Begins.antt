@@ -8,8 +8,10 @@ use native.Mathlib.Omega.{arith}
 use lib.Dec.{eqb}
 use lib.ListN.{length}
 use borrow.Author.Tests.{le-leb, lt-leb}
-use Rattle.paper.specs.declared.Why.TheVariants.{TooDeep}
-use Rattle.paper.specs.Refusals.{Answer, refused, given, ◌>>=◌}
+use Rattle.std.specs.Prelude.{Result, Ok, Err}
+use Rattle.paper.specs.declared.Refusal.{Refusal}
+use Rattle.paper.specs.declared.Why.TheVariants.{BadShape, TooDeep}
+use Rattle.paper.specs.Refusals.{Answer, refused, given, refusal, ◌>>=◌}
 use Rattle.paper.specs.Words.{Token}
 use Rattle.paper.specs.Source.{Stmts}
 use Rattle.paper.specs.Reading as R
@@ -24,7 +26,7 @@ use Rattle.expressions.proofs.Tokens.{key_if, key_case, key_for}
 use Rattle.expressions.proofs.Answers.{weaken, done as ends}
 use Rattle.expressions.proofs.Steps.{next, sees_it, sees_other, passed, here}
 use Rattle.statements.specs.Lists.{StartsIs, is_some, StatementDid, AssignmentDid, BranchDid, CasesDid, RepeatDid}
-use Rattle.statements.proofs.Rooms.{stopped}
+use Rattle.expressions.proofs.Reached.{later}
 use Rattle.statements.proofs.Starting.{start_some}
 use Rattle.statements.proofs.Ways.{a_name_lem, no_name}
 
@@ -85,34 +87,34 @@ option_none (some s) e = let z : ◌≡◌ {A = ℕ} 0 1 = cc in absurd (omega a
 -- ---- one statement
 
 module _ {t : List ℕ} {at n : ℕ} (depth : ℕ) {w : Word} (i : IsWord t at w) where
-  module _ (b : Bool) (st : StartsIs w.class b) {old : List ℕ} {r : Parsed} where
-    pub statement_none : b ≡ false → r ≡ record { code = 3; at = w.at; count = n; root = 0 } → StatementDid t old old at depth n r
-    statement_none e er = record { within = stopped t i.from (omega (arith, i.on, i.to)) er; same = λ k h. refl; runs = go }
+  module _ (b : Bool) (st : StartsIs w.class b) {old : List ℕ} where
+    pub statement_none : b ≡ false → StatementDid t old old at depth n (Err (refusal BadShape w.at))
+    statement_none e = record { within = omega (arith, i.from, i.on, i.to); same = λ k h. refl; runs = go }
       where
-        go : Runs (front_at t old) t at 0 12 (λ f ts. R.statement f depth ts) r
+        go : Runs (front_at t old) t at 0 12 (λ f ts. R.statement f depth ts) (Err (refusal BadShape w.at))
         go ts h zero l = absurd (omega arith)
-        go ts h (suc f) l = rw (none_0 f depth ts (option_none (R.start_of ts) (sym e ∙ start_some t at w i ts h b st))) (here t at w i ts h 3 n r er)
+        go ts h (suc f) l = rw (none_0 f depth ts (option_none (R.start_of ts) (sym e ∙ start_some t at w i ts h b st))) (here t at w i ts h BadShape)
 
-    pub statement_deep : b ≡ true → 32 < depth → r ≡ record { code = 4; at = w.at; count = n; root = 0 } → StatementDid t old old at depth n r
-    statement_deep e d er = record { within = stopped t i.from (omega (arith, i.on, i.to)) er; same = λ k h. refl; runs = go }
+    pub statement_deep : b ≡ true → 32 < depth → StatementDid t old old at depth n (Err (refusal TooDeep w.at))
+    statement_deep e d = record { within = omega (arith, i.from, i.on, i.to); same = λ k h. refl; runs = go }
       where
-        go : Runs (front_at t old) t at 0 12 (λ f ts. R.statement f depth ts) r
+        go : Runs (front_at t old) t at 0 12 (λ f ts. R.statement f depth ts) (Err (refusal TooDeep w.at))
         go ts h zero l = absurd (omega arith)
         go ts h (suc f) l =
             let s = option_some (R.start_of ts) (sym e ∙ start_some t at w i ts h b st) in
-            rw (deep_0 f depth ts s.0 s.1 d) (here t at w i ts h 4 n r er)
+            rw (deep_0 f depth ts s.0 s.1 d) (here t at w i ts h TooDeep)
 
     pub statement_empty : b ≡ true → depth ≤ 32 → (w.class ≡ 1 → ⊥) → (w.class ≡ 11 → ⊥) → (w.class ≡ 16 → ⊥) → (w.class ≡ 18 → ⊥)
-        → r ≡ record { code = 0; at = at; count = n; root = 0 } → StatementDid t old old at depth n r
-    statement_empty e d p q u v er = record { within = rw er (omega (arith, i.from, i.on, i.to)); same = λ k h. refl; runs = go }
+        → StatementDid t old old at depth n (Ok (record { at = at; count = n; root = 0 }))
+    statement_empty e d p q u v = record { within = omega (arith, i.from, i.on, i.to); same = λ k h. refl; runs = go }
       where
-        go : Runs (front_at t old) t at 0 12 (λ f ts. R.statement f depth ts) r
+        go : Runs (front_at t old) t at 0 12 (λ f ts. R.statement f depth ts) (Ok (record { at = at; count = n; root = 0 }))
         go ts h zero l = absurd (omega arith)
         go ts h (suc f) l =
             rw (some_0 f depth ts d at_empty (start_empty t at w i ts h b st e p q u v))
-            (ends (front_at t old) t 0 (length ts) (λ k. k) ts r at n 0 er (fun_ext (λ k. front_nil t old k)) h (omega arith))
+            (ends (front_at t old) t 0 (length ts) (λ k. k) ts at n 0 (fun_ext (λ k. front_nil t old k)) h (omega arith))
 
-  module _ (d : depth ≤ 32) {old new : List ℕ} {r : Parsed} where
+  module _ (d : depth ≤ 32) {old new : List ℕ} {r : Result Parsed Refusal} where
     pub statement_name : w.class ≡ 1 → AssignmentDid t old new at n r → StatementDid t old new at depth n r
     statement_name e X = record { within = X.within; same = X.same; runs = go }
       where
@@ -126,7 +128,7 @@ module _ {t : List ℕ} {at n : ℕ} (depth : ℕ) {w : Word} (i : IsWord t at w
     worded : (c : ℕ) → w.class ≡ c → eqb c 0 ≡ false → (body : ℕ → ℕ → List Token → Answer (Read (Stmts → Stmts)))
         → ((f : ℕ) (ts : List Token) → words_at t at ≡ given ts → R.statement (suc f) depth ts ≡ body f (R.here ts) (R.behind ts))
         → Did (front_at t) t old new w.end n 1 11 (λ f ts. body f w.at ts) r → StatementDid t old new at depth n r
-    worded c e y body q X = record { within = omega (arith, i.from, i.on, X.within); same = X.same; runs = go }
+    worded c e y body q X = record { within = later _ _ _ _ (omega (arith, i.from, i.on)) r X.within; same = X.same; runs = go }
       where
         go : Runs (front_at t new) t at 0 12 (λ f ts. R.statement f depth ts) r
         go ts h zero l = absurd (omega arith)

@@ -3,10 +3,13 @@ use mathlib.Core.Path.{◌≡◌, refl, sym, ap, subst, ◌∙◌}
 use mathlib.Core.Bool.{Bool, true, false}
 use mathlib.Core.Option.{Option, none, some}
 use mathlib.Core.List.{List}
-use Prim.Native.Nat.{ℕ, zero, suc, ◌+◌, ◌≤◌}
+use Prim.Native.Nat.{ℕ, zero, suc, ◌+◌, ◌≤◌, ◌<◌}
 use native.Mathlib.Omega.{arith}
 use native.Mathlib.Numerals.{add-one}
 use lib.ListN.{length}
+use Rattle.std.specs.Prelude.{Result, Ok, Err, IfOk}
+use Rattle.std.proofs.lemmas.Result.{IfOk-weaker}
+use Rattle.paper.specs.declared.Refusal.{Refusal}
 use Rattle.paper.specs.Refusals.{Answer, refused, given, ◌>>=◌}
 use Rattle.paper.specs.Words.{Token}
 use Rattle.paper.specs.Source.{Stmts, done}
@@ -17,7 +20,7 @@ use Rattle.words.specs.Denoted.{IsWord}
 use Rattle.tree.specs.Trees.{front_at}
 use Rattle.tree.proofs.Frames.{front_nil, front_same}
 use Rattle.expressions.specs.declared.Parsed.{Parsed}
-use Rattle.expressions.specs.Reads.{Answered, Runs, ExpectDid}
+use Rattle.expressions.specs.Reads.{Answered, Ends, Runs, ExpectDid}
 use Rattle.expressions.proofs.Tokens.{key_semicolon}
 use Rattle.expressions.proofs.Answers.{done as ends}
 use Rattle.expressions.proofs.Nodes.{both_same}
@@ -61,78 +64,82 @@ unfolding R.list
 more_some f depth us (some s) h e = rw (h, R.more)
 more_some f depth us none h e = let z : ◌≡◌ {A = ℕ} 0 1 = cc in absurd (omega arith)
 
-module _ (t : List ℕ) (at depth : ℕ) (F G : Stmts → Stmts) (w : Word) (i : IsWord t at w) (b : Bool) (st : StartsIs w.class b) (D : ℕ → Stmts) (r : Parsed) where
-  behind_stop : (m c : ℕ) → b ≡ false → r ≡ record { code = 0; at = at; count = c; root = m } → D m ≡ F (G done)
-      → Runs D t at 0 0 (λ f ts. behind_one F depth f G ts) r
-  behind_stop m c e er d ts h zero l = absurd (omega arith)
-  behind_stop m c e er d ts h (suc f) l =
+module _ (t : List ℕ) (at depth : ℕ) (F G : Stmts → Stmts) (w : Word) (i : IsWord t at w) (b : Bool) (st : StartsIs w.class b) (D : ℕ → Stmts) where
+  behind_stop : (m c : ℕ) → b ≡ false → D m ≡ F (G done)
+      → Runs D t at 0 0 (λ f ts. behind_one F depth f G ts) (Ok (record { at = at; count = c; root = m }))
+  behind_stop m c e d ts h zero l = absurd (omega arith)
+  behind_stop m c e d ts h (suc f) l =
       rw (more_none f depth ts (R.start_of ts) refl (sym (start_some t at w i ts h b st) ∙ e))
-      (ends D t 0 (length ts) (F (G done)) ts r at c m er d h (omega arith))
+      (ends D t 0 (length ts) (F (G done)) ts at c m d h (omega arith))
 
-  behind_on : (H : Stmts → Stmts) → ((k : Stmts) → H k ≡ F (G k)) → b ≡ true → Runs D t at 1 14 (λ f ts. onto H (R.list f depth ts)) r
+  behind_on : (r : Result Parsed Refusal) (H : Stmts → Stmts) → ((k : Stmts) → H k ≡ F (G k)) → b ≡ true → Runs D t at 1 14 (λ f ts. onto H (R.list f depth ts)) r
       → Runs D t at 1 15 (λ f ts. behind_one F depth f G ts) r
-  behind_on H eh e x ts h zero l = absurd (omega arith)
-  behind_on H eh e x ts h (suc f) l =
+  behind_on r H eh e x ts h zero l = absurd (omega arith)
+  behind_on r H eh e x ts h (suc f) l =
       rw (more_some f depth ts (R.start_of ts) refl (sym (start_some t at w i ts h b st) ∙ e), onto_both F G H eh (R.list f depth ts))
       (x ts h f (omega arith))
 
-module _ {t old mid : List ℕ} {at n : ℕ} (depth before : ℕ) {q : Parsed} (Q : StatementDid t old mid at depth n q) where
-  pub list_bad : (q.code ≡ 0 → ⊥) → ListDid t old mid at depth n before q
-  list_bad z = (
-    omega (arith, Q.within, z),
-    did Q.within (stepped (list_step (front_at t old before) depth) (part_bad (part Q) _ 1 z) (omega arith)),
-  )
+module _ {t old mid : List ℕ} {at n : ℕ} (depth before : ℕ) where
+  pub list_bad : {y : Refusal} → StatementDid t old mid at depth n (Err y) → ListDid t old mid at depth n before (Err y)
+  list_bad Q = (tt, did Q.within (stepped (list_step (front_at t old before) depth) (part_bad (part Q) _ 1) (omega arith)))
 
-  module _ (z : q.code ≡ 0) {o : Parsed} (E : ExpectDid t q.at 60 q.count o) where
-    pub list_open : (o.code ≡ 0 → ⊥) → ListDid t old mid at depth n before o
-    list_open y = (
-      omega (arith, Q.within, E.within, E.count, y),
-      did (omega (arith, Q.within, E.within, E.count))
-          (stepped (list_step (front_at t old before) depth) (part_good (part Q) _ z (past_bad ";" key_semicolon E _ 1 y) (omega arith)) (omega arith)),
+  module _ {q : Parsed} (Q : StatementDid t old mid at depth n (Ok q)) where
+    pub list_open : {y : Refusal} → ExpectDid t q.at 60 (Err y) → ListDid t old mid at depth n before (Err y)
+    list_open E = (
+      tt,
+      did (omega (arith, Q.within, E.within))
+          (stepped (list_step (front_at t old before) depth) (part_good (part Q) _ (past_bad ";" key_semicolon E _ 1) (omega arith)) (omega arith)),
     )
 
     -- the statement linked to those before it, and the word behind its semicolon
-    module _ (y : o.code ≡ 0) {new : List ℕ} {l : Parsed} (L : LinkedDid mid new q.count before q.root l) (lb : before ≤ n)
-        {w : Word} (i : IsWord t o.at w) (b : Bool) (st : StartsIs w.class b) where
+    module _ {l : Parsed} (E : ExpectDid t q.at 60 (Ok l.at)) {o : ℕ} {new : List ℕ} (L : LinkedDid mid new o q.count before q.root l) (lb : before ≤ n)
+        {w : Word} (i : IsWord t l.at w) (b : Bool) (st : StartsIs w.class b) where
       front : (k : Stmts) → front_at t new l.root k ≡ front_at t old before (front_at t mid q.root k)
       front k = L.front t k ∙ front_same t old mid n before Q.same lb (front_at t mid q.root k)
 
-      pub list_stop : {r : Parsed} → b ≡ false → r ≡ record { code = 0; at = o.at; count = l.count; root = l.root } → ListDid t old new at depth n before r
-      list_stop {r} e er =
+      pub list_stop : b ≡ false → ListDid t old new at depth n before (Ok l)
+      list_stop e =
           let F = front_at t old before in
           let s = E.step refl refl in
-          let P : Part (list_at t) t mid new o.at q.count 0 0 (λ f us. behind_one F depth f (front_at t mid q.root) us) r
-          = record { more = rw er L.more; same = L.same; runs = behind_stop t o.at depth F (front_at t mid q.root) w i b st (list_at t new) r l.root l.count e er (front done) } in (
-            rw er (omega (arith, Q.within, E.within, E.count, L.few, L.first)),
-            did (rw er (omega (arith, Q.within, E.within, E.count, L.more, L.few, L.first, L.rooted)))
-                (stepped (list_step F depth) (part_good (part Q) _ z (past ";" key_semicolon E _ y P) (omega arith)) (omega arith)),
+          let P : Part (list_at t) t mid new l.at q.count 0 0 (λ f us. behind_one F depth f (front_at t mid q.root) us) (Ok l)
+          = record { more = L.more; same = L.same; runs = behind_stop t l.at depth F (front_at t mid q.root) w i b st (list_at t new) l.root l.count e (front done) } in (
+            omega (arith, Q.within, E.within, L.few, L.first),
+            did (omega (arith, Q.within, E.within, L.more, L.few, L.first, L.rooted))
+                (stepped (list_step F depth) (part_good (part Q) _ (past ";" key_semicolon E _ P) (omega arith)) (omega arith)),
           )
 
-      pub list_on : {last : List ℕ} {r : Parsed} → b ≡ true → ListDid t new last o.at depth l.count l.root r → ListDid t old last at depth n before r
+      pub list_on : {last : List ℕ} {r : Result Parsed Refusal} → b ≡ true → ListDid t new last l.at depth l.count l.root r → ListDid t old last at depth n before r
       list_on {last} {r} e N =
           let F = front_at t old before in
-          let s = E.step refl refl in
-          let P : Part (list_at t) t mid last o.at q.count 1 15 (λ f us. behind_one F depth f (front_at t mid q.root) us) r
+          let P : Part (list_at t) t mid last l.at q.count 1 15 (λ f us. behind_one F depth f (front_at t mid q.root) us) r
           = record {
-            more = omega (arith, L.more, N.1.within);
+            more = IfOk-weaker r _ _ (λ p b. omega (arith, L.more, b)) (part N.1).more;
             same = both_same q.count l.count mid new last L.same L.more N.1.same;
-            runs = behind_on t o.at depth F (front_at t mid q.root) w i b st (list_at t last) r (front_at t new l.root) front e N.1.runs;
+            runs = behind_on t l.at depth F (front_at t mid q.root) w i b st (list_at t last) r (front_at t new l.root) front e N.1.runs;
           } in (
-            omega (arith, Q.within, E.within, E.count, L.more, L.few, L.first, L.rooted, N.0, N.1.within),
-            did (omega (arith, Q.within, E.within, E.count, L.more, L.few, L.first, L.rooted, N.0, N.1.within))
-                (stepped (list_step F depth) (part_good (part Q) _ z (past ";" key_semicolon E _ y P) (omega arith)) (omega arith)),
+            spare r N.0 N.1.within,
+            did (ends_there r N.0 N.1.within) (stepped (list_step F depth) (part_good (part Q) _ (past ";" key_semicolon E _ P) (omega arith)) (omega arith)),
           )
+        where
+          spare : (r : Result Parsed Refusal) → IfOk r (λ p. p.count + l.at < l.count + p.at + l.root) → Ends (length t) l.at l.count r
+              → IfOk r (λ p. p.count + at < n + p.at + before)
+          spare (Ok p) x y = let s = E.step refl refl in omega (arith, s, Q.within, E.within, L.more, L.few, L.first, L.rooted, x, y)
+          spare (Err p) x y = tt
+
+          ends_there : (r : Result Parsed Refusal) → IfOk r (λ p. p.count + l.at < l.count + p.at + l.root) → Ends (length t) l.at l.count r → Ends (length t) at n r
+          ends_there (Ok p) x y = let s = E.step refl refl in omega (arith, s, Q.within, E.within, L.more, L.few, L.first, L.rooted, x, y)
+          ends_there (Err p) x y = let s = E.step refl refl in omega (arith, s, Q.within, E.within, y)
 
 -- a whole list, from nil on, one deeper
 onto_nil : (F : Stmts → Stmts) → ((k : Stmts) → F k ≡ k) → (s : Answer (Read Stmts)) → onto F s ≡ s
 onto_nil F e (refused w p) = refl
 onto_nil F e (given x) = ap (λ y. ok y x.rest) (e x.it)
 
-pub whole : {t old new : List ℕ} {at n : ℕ} (depth : ℕ) {r : Parsed} → ListDid t old new at (depth + 1) n 0 r
+pub whole : {t old new : List ℕ} {at n : ℕ} (depth : ℕ) {r : Result Parsed Refusal} → ListDid t old new at (depth + 1) n 0 r
     → Part (list_at t) t old new at n 1 14 (λ f ts. R.list f (suc depth) ts) r
 whole {t} {old} {new} depth {r} L =
     record {
-      more = L.1.within.more;
+      more = (part L.1).more;
       same = L.1.same;
       runs = λ ts h f l. subst (λ s. Answered (list_at t new) t 1 (length ts) s r)
           (onto_nil (front_at t old 0) (front_nil t old) (R.list f (depth + 1) ts) ∙ ap (λ d. R.list f d ts) (add-one depth)) (L.1.runs ts h f l);

@@ -1,12 +1,13 @@
 -- Laws of reading a CASE: its arms, and the arms behind one.
 use mathlib.Core.Path.{◌≡◌, refl, sym, ◌∙◌}
-use mathlib.Core.Bool.{Bool, true, false}
+use mathlib.Core.Bool.{true, false}
 use mathlib.Core.List.{List, [], ◌++◌}
+use mathlib.Core.Logic.{◌⊎◌, inl, inr}
 use Prim.Native.Nat.{ℕ, zero, suc, ◌+◌, ◌≤◌}
 use native.Mathlib.Omega.{arith}
 use native.Mathlib.Numerals.{add-one}
-use borrow.Author.Tests.{eqb-true, eqb-false}
-use lib.Dec.{eqb}
+use Rattle.std.specs.Prelude.{Result, Ok, Err}
+use Rattle.paper.specs.declared.Refusal.{Refusal}
 use Rattle.paper.specs.Refusals.{Answer, refused, given, ◌>>=◌}
 use Rattle.paper.specs.Words.{Token}
 use Rattle.paper.specs.Source.{Label, Stmts, select, arm}
@@ -18,11 +19,11 @@ use Rattle.tree.specs.Nodes.{written}
 use Rattle.tree.specs.Trees.{labels_at, arms_at}
 use Rattle.tree.proofs.Frames.{labels_nil}
 use Rattle.expressions.specs.declared.Parsed.{Parsed}
-use Rattle.expressions.specs.Reads.{Runs, Did, ExpectDid, ExpressionDid}
+use Rattle.expressions.specs.Reads.{Runs, ExpectDid, ExpressionDid}
 use Rattle.expressions.proofs.Tokens.{key_of_lem, key_minus, key_end_case}
 use Rattle.expressions.proofs.Steps.{sees_it, sees_other, a_number_lem, no_number}
 use Rattle.expressions.proofs.Nodes.{both_same}
-use Rattle.statements.specs.Lists.{list_at, ListDid, ClosingDid, CasesDid, ArmsDid, MoreArmsDid, ElseListDid, LabelsDid}
+use Rattle.statements.specs.Lists.{ListDid, ClosingDid, CasesDid, ArmsDid, MoreArmsDid, LabelsDid}
 use Rattle.statements.proofs.Runs.{assoc, cong}
 use Rattle.statements.proofs.Rooms.{Spare, ended}
 use Rattle.statements.proofs.Parts.{Part, part, did, stepped, part_bad, part_good, node}
@@ -49,13 +50,12 @@ cases_shape depth p =
       step = cases_step depth p;
     }
 
-module _ {t old mid new last : List ℕ} {at n : ℕ} (depth p : ℕ) {c o b r : Parsed} where
-  pub cases_good : ExpressionDid t old mid at 1 0 n c → c.code ≡ 0 → ExpectDid t c.at 10 c.count o → o.code ≡ 0
-      → ArmsDid t mid new o.at depth c.count b → b.code ≡ 0 → Spare t new at n b.at b.count
-      → last ≡ written new (b.count + 1) 42 c.root b.root p → r ≡ record { code = 0; at = b.at; count = b.count + 1; root = b.count + 1 }
-      → CasesDid t old last at depth n p r
-  cases_good C z E y B u S e er =
-      headed_good (cases_shape depth p) C z E y B 42 p u S e er
+module _ {t old mid new last : List ℕ} {at n : ℕ} (depth p : ℕ) {c b : Parsed} {o : ℕ} where
+  pub cases_good : ExpressionDid t old mid at 1 0 n (Ok c) → ExpectDid t c.at 10 (Ok o) → ArmsDid t mid new o depth c.count (Ok b)
+      → Spare t new at n b.at b.count → last ≡ written new (b.count + 1) 42 c.root b.root p
+      → CasesDid t old last at depth n p (Ok (record { at = b.at; count = b.count + 1; root = b.count + 1 }))
+  cases_good C E B S e =
+      headed_good (cases_shape depth p) C E B 42 p S e
       (select_node t mid new last c.count b.count c.root b.root p B.same C.within.rooted (omega (arith, C.within, B.within)) B.within.rooted S.pool e)
 
 -- ---- an arm: its labels, its list, and what comes behind
@@ -70,36 +70,37 @@ unfolding R.list
 arms_step_lem ls e depth f ts =
     rw e (cong (R.labels f ts) _ _ (λ l. sym (assoc (R.expect ":" l.rest) _ _)) ∙ sym (assoc (R.labels f ts) _ _))
 
-module _ {t old mid : List ℕ} {at n : ℕ} (depth : ℕ) {l : Parsed} (L : LabelsDid t old mid at n 0 l) where
-  stepped_arms : {new : List ℕ} {r : Parsed} {e : ℕ}
+module _ {t old : List ℕ} {at n : ℕ} (depth : ℕ) where
+  stepped_arms : {new : List ℕ} {r : Result Parsed Refusal} {e : ℕ}
       → Part (arms_at t) t old new at n e 0 (λ f ts. labelled (labels_at old 0) f ts >>= λ l. (R.list f (suc depth) l.rest >>= λ a. (R.more_arms f depth a.rest >>= λ b. ok (arm l.it a.it b.it) b.rest))) r
       → 1 ≤ e → Part (arms_at t) t old new at n 1 9 (λ f ts. R.arms f depth ts) r
   stepped_arms P l = stepped (arms_step_lem (labels_at old 0) (labels_nil old) depth) P (omega arith)
 
-  pub arms_bad : (l.code ≡ 0 → ⊥) → ArmsDid t old mid at depth n l
-  arms_bad z = did L.within (stepped_arms (part_bad (part L) _ 1 z) (omega arith))
+module _ {t old mid : List ℕ} {at n : ℕ} (depth : ℕ) where
+  pub arms_bad : {y : Refusal} → LabelsDid t old mid at n 0 (Err y) → ArmsDid t old mid at depth n (Err y)
+  arms_bad L = did L.within (stepped_arms depth (part_bad (part L) _ 1) (omega arith))
 
-  module _ (z : l.code ≡ 0) {new : List ℕ} {a : Parsed} (A : ListDid t mid new l.at (depth + 1) l.count 0 a) where
-    pub arms_half : (a.code ≡ 0 → ⊥) → ArmsDid t old new at depth n a
-    arms_half y =
-        did (omega (arith, L.within, A.1.within)) (stepped_arms (part_good (part L) _ z (part_bad (whole depth A) _ 1 y) (omega arith)) (omega arith))
+  module _ {l : Parsed} (L : LabelsDid t old mid at n 0 (Ok l)) {new : List ℕ} where
+    pub arms_half : {y : Refusal} → ListDid t mid new l.at (depth + 1) l.count 0 (Err y) → ArmsDid t old new at depth n (Err y)
+    arms_half A =
+        did (omega (arith, L.within, A.1.within)) (stepped_arms depth (part_good (part L) _ (part_bad (whole depth A) _ 1) (omega arith)) (omega arith))
 
-    module _ (y : a.code ≡ 0) {last : List ℕ} {b : Parsed} (B : MoreArmsDid t new last a.at depth a.count b) where
-      pub arms_rest : (b.code ≡ 0 → ⊥) → ArmsDid t old last at depth n b
-      arms_rest u =
+    module _ {a : Parsed} (A : ListDid t mid new l.at (depth + 1) l.count 0 (Ok a)) {last : List ℕ} where
+      pub arms_rest : {y : Refusal} → MoreArmsDid t new last a.at depth a.count (Err y) → ArmsDid t old last at depth n (Err y)
+      arms_rest B =
           did (omega (arith, L.within, A.1.within, B.within))
-          (stepped_arms (part_good (part L) _ z (part_good (whole depth A) _ y (part_bad (part B) _ 1 u) (omega arith)) (omega arith)) (omega arith))
+          (stepped_arms depth (part_good (part L) _ (part_good (whole depth A) _ (part_bad (part B) _ 1) (omega arith)) (omega arith)) (omega arith))
 
-      pub arms_good : {end : List ℕ} {r : Parsed} → b.code ≡ 0 → Spare t last at n b.at b.count
-          → end ≡ written last (b.count + 1) 48 l.root a.root b.root → r ≡ record { code = 0; at = b.at; count = b.count + 1; root = b.count + 1 }
-          → ArmsDid t old end at depth n r
-      arms_good {end} u S e er =
+      pub arms_good : {b : Parsed} → MoreArmsDid t new last a.at depth a.count (Ok b) → {end : List ℕ} → Spare t last at n b.at b.count
+          → end ≡ written last (b.count + 1) 48 l.root a.root b.root
+          → ArmsDid t old end at depth n (Ok (record { at = b.at; count = b.count + 1; root = b.count + 1 }))
+      arms_good {b} B {end} S e =
           let m = both_same l.count a.count mid new last A.1.same A.1.within.more B.same in
           let v : l.root ≤ b.count = omega (arith, L.within, A.1.within, B.within) in
           let w : a.root ≤ b.count = omega (arith, A.1.within, B.within) in
           let d = arm_node t mid last end l.count b.count l.root a.root b.root m L.within.rooted v w S.pool new a.count B.same A.1.within.rooted B.within.rooted e in
-          did (ended S er)
-          (stepped_arms (part_good (part L) _ z (part_good (whole depth A) _ y (part_good (part B) _ u (node 48 l.root a.root b.root e er d) (omega arith)) (omega arith)) (omega arith)) (omega arith))
+          did (ended S)
+          (stepped_arms depth (part_good (part L) _ (part_good (whole depth A) _ (part_good (part B) _ (node 48 l.root a.root b.root e d) (omega arith)) (omega arith)) (omega arith)) (omega arith))
 
 -- ---- the arms behind one
 
@@ -112,7 +113,7 @@ module _ (f depth : ℕ) (ts : List Token) where
   unfolding R.list
   more_arms_0 e = rw (e, R.more_arms)
 
-module _ {t old new : List ℕ} {at n : ℕ} (depth : ℕ) {w : Word} (i : IsWord t at w) {r : Parsed} where
+module _ {t old new : List ℕ} {at n : ℕ} (depth : ℕ) {w : Word} (i : IsWord t at w) {r : Result Parsed Refusal} where
   -- an arm begins with a number or with a minus
   arms_on : ((ts : List Token) → words_at t at ≡ given ts → R.starts_label ts ≡ true) → ArmsDid t old new at (depth + 1) n r → MoreArmsDid t old new at depth n r
   arms_on y A = record { within = A.within; same = A.same; runs = go }
@@ -121,11 +122,9 @@ module _ {t old new : List ℕ} {at n : ℕ} (depth : ℕ) {w : Word} (i : IsWor
       go ts h zero l = absurd (omega arith)
       go ts h (suc f) l = rw (more_arms_1 f depth ts (y ts h), ← add-one depth) (A.runs ts h f (omega arith))
 
-  pub more_arms_number : w.class ≡ 2 → ArmsDid t old new at (depth + 1) n r → MoreArmsDid t old new at depth n r
-  more_arms_number e A = arms_on (λ ts h. rw (a_number_lem t at w i ts h e, R.starts_label)) A
-
-  pub more_arms_minus : w.class ≡ 69 → ArmsDid t old new at (depth + 1) n r → MoreArmsDid t old new at depth n r
-  more_arms_minus e A = arms_on (λ ts h. rw (no_number t at w i ts h (λ z. omega arith), sees_it t at w i ts h "-" 69 key_minus e, R.starts_label)) A
+  pub more_arms_next : (w.class ≡ 2) ⊎ (w.class ≡ 69) → ArmsDid t old new at (depth + 1) n r → MoreArmsDid t old new at depth n r
+  more_arms_next (inl e) A = arms_on (λ ts h. rw (a_number_lem t at w i ts h e, R.starts_label)) A
+  more_arms_next (inr e) A = arms_on (λ ts h. rw (no_number t at w i ts h (λ z. omega arith), sees_it t at w i ts h "-" 69 key_minus e, R.starts_label)) A
 
 -- ---- the ELSE list, in a node of its own
 
@@ -133,11 +132,11 @@ same_reading : (s : Answer (Read Stmts)) → s ≡ (s >>= λ x. ok x.it x.rest)
 same_reading (refused v p) = refl
 same_reading (given x) = refl
 
-module _ {t old : List ℕ} {at n : ℕ} (depth : ℕ) {w : Word} (i : IsWord t at w) (e : w.class ≡ 2 → ⊥) (g : w.class ≡ 69 → ⊥) {r : Parsed} where
+module _ {t old : List ℕ} {at n : ℕ} (depth : ℕ) {w : Word} (i : IsWord t at w) (e : w.class ≡ 2 → ⊥) (g : w.class ≡ 69 → ⊥) where
   -- read as ELSE and END_CASE
-  else_step : {last : List ℕ} → Part (arms_at t) t old last at n 1 8 (λ f ts. R.else_part f depth "END_CASE" ts >>= λ x. ok x.it x.rest) r
+  else_step : {last : List ℕ} {r : Result Parsed Refusal} → Part (arms_at t) t old last at n 1 8 (λ f ts. R.else_part f depth "END_CASE" ts >>= λ x. ok x.it x.rest) r
       → Part (arms_at t) t old last at n 1 10 (λ f ts. R.more_arms f depth ts) r
-  else_step {last} P = record { more = P.more; same = P.same; runs = go }
+  else_step {last} {r} P = record { more = P.more; same = P.same; runs = go }
     where
       go : Runs (arms_at t last) t at 1 10 (λ f ts. R.more_arms f depth ts) r
       go ts h zero l = absurd (omega arith)
@@ -145,18 +144,13 @@ module _ {t old : List ℕ} {at n : ℕ} (depth : ℕ) {w : Word} (i : IsWord t 
           let y : R.starts_label ts ≡ false = rw (no_number t at w i ts h e, sees_other t at w i ts h "-" 69 key_minus g, R.starts_label) in
           rw (more_arms_0 f depth ts y, same_reading (R.else_part f depth "END_CASE" ts)) (P.runs ts h f (omega arith))
 
-module _ {t old mid new : List ℕ} {at n : ℕ} (depth : ℕ) {w : Word} (i : IsWord t at w) {b r : Parsed} where
-  pub more_arms_plain : (w.class ≡ 2 → ⊥) → (w.class ≡ 69 → ⊥) → ClosingDid t old mid at depth n 17 b → ElseListDid mid new b r
-      → (b.code ≡ 0 → Spare t mid at n b.at b.count) → MoreArmsDid t old new at depth n r
-  more_arms_plain e g K E S = go (eqb b.code 0) refl (K.1 "END_CASE" key_end_case)
-    where
-      go : (c : Bool) → eqb b.code 0 ≡ c → Did (list_at t) t old mid at n 1 8 (λ f ts. R.else_part f depth "END_CASE" ts) b → MoreArmsDid t old new at depth n r
-      go true z C =
-          let y = eqb-true b.code 0 z in
-          let (en, er) = E.put y in
-          did (ended (S y) er)
-          (else_step depth i e g (part_good (part C) _ y (node 49 b.root 0 0 en er (else_node t mid new b.count b.root C.within.rooted (S y).pool en)) (omega arith)))
-      go false z C =
-          let y = eqb-false b.code 0 z in
-          let (en, er) = E.kept y in
-          rw (en, er) (did C.within (else_step depth i e g (part_bad (part C) _ 1 y)))
+  module _ {mid : List ℕ} where
+    pub more_arms_bad : {y : Refusal} → ClosingDid t old mid at depth n 17 (Err y) → MoreArmsDid t old mid at depth n (Err y)
+    more_arms_bad K = let C = K.1 "END_CASE" key_end_case in did C.within (else_step (part_bad (part C) _ 1))
+
+    pub more_arms_plain : {b : Parsed} → ClosingDid t old mid at depth n 17 (Ok b) → {new : List ℕ} → Spare t mid at n b.at b.count
+        → new ≡ written mid (b.count + 1) 49 b.root 0 0 → MoreArmsDid t old new at depth n (Ok (record { at = b.at; count = b.count + 1; root = b.count + 1 }))
+    more_arms_plain {b} K {new} S en =
+        let C = K.1 "END_CASE" key_end_case in
+        did (ended S)
+        (else_step (part_good (part C) _ (node 49 b.root 0 0 en (else_node t mid new b.count b.root C.within.rooted S.pool en)) (omega arith)))

@@ -9,7 +9,10 @@ use native.Mathlib.Omega.{arith}
 use lib.Dec.{eqb}
 use lib.ListN.{length}
 use borrow.Author.Tests.{ne_eqb}
-use Rattle.paper.specs.Refusals.{Answer, given, ◌>>=◌}
+use Rattle.std.specs.Prelude.{Result, Err}
+use Rattle.paper.specs.declared.Refusal.{Refusal}
+use Rattle.paper.specs.declared.Why.TheVariants.{BadShape}
+use Rattle.paper.specs.Refusals.{Answer, given, refusal, ◌>>=◌}
 use Rattle.paper.specs.Words.{Token}
 use Rattle.paper.specs.Reading as R
 use Rattle.paper.specs.Reading.{Read}
@@ -31,13 +34,13 @@ module _ (t : List ℕ) (at : ℕ) (w : Word) (i : IsWord t at w) (ts : List Tok
 
 module _ {A : Type 0} (D : ℕ → A) (t : List ℕ) (at e k : ℕ) (w : Word) (i : IsWord t at w) where
   -- behind the word
-  pub runs_behind : (g : ℕ → List Token → List Token → Answer (Read A)) (c j a : ℕ) (r : Parsed) → w.class ≡ c → eqb c 0 ≡ false → e ≤ j + 1 → a ≤ k + 16
+  pub runs_behind : (g : ℕ → List Token → List Token → Answer (Read A)) (c j a : ℕ) (r : Result Parsed Refusal) → w.class ≡ c → eqb c 0 ≡ false → e ≤ j + 1 → a ≤ k + 16
       → ((ts : List Token) → words_at t at ≡ given ts → Runs D t w.end j a (λ f us. g f ts us) r) → Runs D t at e k (λ f ts. g f ts (R.behind ts)) r
   runs_behind g c j a r ec z le la y ts h f l =
       let b = passed t at w i ts h c ec z in
       weaken D t e (length ts) j (length (R.behind ts)) (g f ts (R.behind ts)) r (omega arith) (y ts h (R.behind ts) b.0 f (omega arith))
 
-  module _ (s : String) (c : ℕ) (key : KeyIs s c) (x y : ℕ → List Token → Answer (Read A)) (r : Parsed) where
+  module _ (s : String) (c : ℕ) (key : KeyIs s c) (x y : ℕ → List Token → Answer (Read A)) (r : Result Parsed Refusal) where
     pub runs_sees : w.class ≡ c → Runs D t at e k x r → Runs D t at e k (λ f ts. elim (R.sees s ts) [ true ↦ x f ts | false ↦ y f ts ]) r
     runs_sees ec a ts h f l = rw (sees_it t at w i ts h s c key ec) (a ts h f l)
 
@@ -48,14 +51,13 @@ module _ {A : Type 0} (D : ℕ → A) (t : List ℕ) (at e k : ℕ) (w : Word) (
   abbrev expected : List Token → Bool → Answer (List Token)
   expected ts b = elim b [ true ↦ given (R.behind ts) | false ↦ R.broken ts ]
 
-  module _ (s : String) (c : ℕ) (key : KeyIs s c) (g : ℕ → List Token → List Token → Answer (Read A)) (r : Parsed) where
-    pub expect_bad : (n : ℕ) → (w.class ≡ c → ⊥) → r ≡ record { code = 3; at = w.at; count = n; root = 0 }
-        → Runs D t at e k (λ f ts. R.expect s ts >>= g f ts) r
-    expect_bad n ec er ts h f l =
-        subst (λ b. Answered D t e (length ts) (expected ts b >>= g f ts) r) (sym (sees_other t at w i ts h s c key ec)) (here t at w i ts h 3 n r er)
+  module _ (s : String) (c : ℕ) (key : KeyIs s c) (g : ℕ → List Token → List Token → Answer (Read A)) where
+    pub expect_bad : (w.class ≡ c → ⊥) → Runs D t at e k (λ f ts. R.expect s ts >>= g f ts) (Err (refusal BadShape w.at))
+    expect_bad ec ts h f l =
+        subst (λ b. Answered D t e (length ts) (expected ts b >>= g f ts) (Err (refusal BadShape w.at))) (sym (sees_other t at w i ts h s c key ec)) (here t at w i ts h BadShape)
 
-    pub expect_good : (j a : ℕ) → w.class ≡ c → eqb c 0 ≡ false → e ≤ j + 1 → a ≤ k + 16
+    pub expect_good : (r : Result Parsed Refusal) (j a : ℕ) → w.class ≡ c → eqb c 0 ≡ false → e ≤ j + 1 → a ≤ k + 16
         → ((ts : List Token) → words_at t at ≡ given ts → Runs D t w.end j a (λ f us. g f ts us) r)
         → Runs D t at e k (λ f ts. R.expect s ts >>= g f ts) r
-    expect_good j a ec z le la y ts h f l =
+    expect_good r j a ec z le la y ts h f l =
         subst (λ b. Answered D t e (length ts) (expected ts b >>= g f ts) r) (sym (sees_it t at w i ts h s c key ec)) (runs_behind g c j a r ec z le la y ts h f l)

@@ -11,7 +11,7 @@ abbrev pub decreases-expression : goal.decreases-expression
 decreases-expression l = 16 * (length l.text.now - l.at) + 6
 
 abbrev pub decreases-joined : goal.decreases-joined
-decreases-joined l = 16 * (length l.text.now - l.at) + 5
+decreases-joined l = 16 * (length l.text.now - l.first.at) + 5
 
 abbrev pub decreases-named : goal.decreases-named
 decreases-named l = 16 * (length l.text.now - l.end) + 1
@@ -28,10 +28,10 @@ decreases-signed l = 16 * (length l.text.now - l.at) + 3
 abbrev pub decreases-wrapped : goal.decreases-wrapped
 decreases-wrapped l = 16 * (length l.text.now - l.at) + 1
 
-abbrev pub invariant-joined-loop-w : goal.invariant-joined-loop-w
-invariant-joined-loop-w l =
-    (l.at ≤ l.end) × (l.end ≤ length l.text) × (l.count ≤ l.last) × (l.last + l.at ≤ l.count + l.end) × (l.root ≤ l.last) × (length l.pool ≡ length l.initial.pool) × Carries l.text l.initial.pool l.pool l.least l.nest l.at l.end l.count l.last l.left l.root
+abbrev pub invariant-joined-loop-o : goal.invariant-joined-loop-o
+invariant-joined-loop-o l =
+    (l.initial.left.at ≤ l.left.at) × (l.left.at ≤ length l.text) × (l.initial.left.count ≤ l.left.count) × (l.left.count + l.initial.left.at ≤ l.initial.left.count + l.left.at) × (l.left.root ≤ l.left.count) × (length l.pool ≡ length l.initial.pool) × Carries l.text l.initial.pool l.pool l.least l.nest l.initial.left.at l.left.at l.initial.left.count l.left.count l.initial.left.root l.left.root
 
-abbrev pub decreases-joined-loop-w : goal.decreases-joined-loop-w
-decreases-joined-loop-w l =
-    length l.text - l.end
+abbrev pub decreases-joined-loop-o : goal.decreases-joined-loop-o
+decreases-joined-loop-o l =
+    length l.text - l.left.at

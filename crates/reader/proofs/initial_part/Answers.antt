@@ -1,5 +1,5 @@
 -- A declared value, if one comes next.
-use mathlib.Core.Path.{refl, sym, ◌∙◌}
+use mathlib.Core.Path.{sym, ◌∙◌}
 use mathlib.Core.Bool.{true≢false}
 use borrow.Author.Tests.{eqb-true, eqb-false}
 use Rattle.reader.proofs.Values.{initial_some, initial_none}
@@ -13,4 +13,4 @@ returns-then-w-eq-BECOMES c =
 pub returns : goal.returns
 returns c =
     initial_none c.requires c.next_word-w.ensures
-    (λ x y. elim c.else-allowed.branch [ else-allowed-via-then-allowed+else-w-eq-BECOMES w ↦ eqb-false c.next_word-w.result.class 54 w.if-w-eq-BECOMES.false-raw y | else-allowed-via-else-allowed w ↦ true≢false (sym x ∙ w.if-allowed.false) ]) refl
+    (λ x y. elim c.else-allowed.branch [ else-allowed-via-then-allowed+else-w-eq-BECOMES w ↦ eqb-false c.next_word-w.result.class 54 w.if-w-eq-BECOMES.false-raw y | else-allowed-via-else-allowed w ↦ true≢false (sym x ∙ w.if-allowed.false) ])

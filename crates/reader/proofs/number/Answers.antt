@@ -7,10 +7,10 @@ use Rattle.reader.proofs.number.Goals as goal
 
 pub returns-then-w-ne-NUMBER : goal.returns-then-w-ne-NUMBER
 returns-then-w-ne-NUMBER c =
-    number_bad c.requires c.next_word-w.ensures c.if-w-ne-NUMBER.true c.broken.ensures
+    rw c.broken.ensures (number_bad c.next_word-w.ensures c.if-w-ne-NUMBER.true)
 
 pub returns : goal.returns
 returns c =
-    number_good c.next_word-w.ensures c.if-w-ne-NUMBER.false c.low.ensures c.high.ensures
-    (let m = class_moves _ _ _ c.next_word-w.ensures 2 c.if-w-ne-NUMBER.false refl refl in omega (arith, c.requires, c.next_word-w.ensures))
-    c.put.ensures c.leaf.ensures
+    let m = class_moves _ _ _ c.next_word-w.ensures 2 c.if-w-ne-NUMBER.false refl refl in
+    rw c.number_node.ensures.read
+    (number_good c.next_word-w.ensures c.if-w-ne-NUMBER.false (omega (arith, c.requires, c.next_word-w.ensures)) c.number_node.ensures.written)

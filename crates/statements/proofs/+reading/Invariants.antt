@@ -37,8 +37,8 @@ decreases-statement l = 16 * (length l.text.now - l.at) + 12
 
 abbrev pub invariant-list-loop-s : goal.invariant-list-loop-s
 invariant-list-loop-s l =
-    Turn (λ old new a n b r. ListDid l.text old new a l.depth n b r) l.text l.initial.pool l.at l.count l.before l.pool l.from l.nodes l.root × IsWord l.text l.from l.w
+    Turn (λ old new a n b r. ListDid l.text old new a l.depth n b r) l.text l.initial.pool l.initial.read.at l.initial.read.count l.initial.read.root l.pool l.read.at l.read.count l.read.root × IsWord l.text l.read.at l.w
 
 abbrev pub decreases-list-loop-s : goal.decreases-list-loop-s
 decreases-list-loop-s l =
-    length l.text - l.from
+    length l.text - l.read.at

@@ -1,34 +1,24 @@
 -- `assignment` meets its contract: one law for each of its four ways on.
 use mathlib.Core.Path.{refl}
-use Prim.Native.Nat.{◌≤◌}
 use native.Mathlib.Omega.{arith}
+use Rattle.std.proofs.lemmas.Result.{err_from_is_err_and}
 use Rattle.expressions.proofs.Moves.{class_moves}
-use Rattle.statements.proofs.Rooms.{Spare}
 use Rattle.statements.proofs.Assignments.{assignment_none, assignment_half, assignment_good}
 use Rattle.statements.proofs.assignment.Goals as goal
-use Rattle.statements.proofs.assignment.Lts as lts
-use Rattle.statements.proofs.assignment.Reads as reads
-use Rattle.statements.proofs.assignment.Tie as tie
-
-abbrev raw-Else3 : Type 0
-raw-Else3 = lts.Else3 tie.the-claims reads.Pre reads.Post
-
--- room for the node at the end, behind those of its parts
-spare : (c : raw-Else3)
-    → Spare c.args.text.now c.expression-e.new.pool c.args.at c.args.count c.expression-e.result.at c.expression-e.result.count
-    × (c.primary-x.result.root ≤ c.expression-e.result.count) × (c.expression-e.result.root ≤ c.expression-e.result.count) × (c.next_word-b.result.at ≤ 8192)
-spare c =
-    let m = class_moves c.args.text.now c.primary-x.result.at c.next_word-b.result c.next_word-b.ensures 54 c.if-b-ne-BECOMES.false refl refl in
-    omega (arith, c.requires, c.primary-x.ensures.within, c.primary-x.auto, c.next_word-b.ensures.from, c.next_word-b.ensures.to, c.expression-e.ensures.within, c.expression-e.auto)
 
 pub returns-then-b-ne-BECOMES : goal.returns-then-b-ne-BECOMES
 returns-then-b-ne-BECOMES c =
-    assignment_none c.primary-x.ensures c.if-x-ne0.false c.next_word-b.ensures c.if-b-ne-BECOMES.true c.broken.ensures
+    rw c.broken.ensures (assignment_none c.in_ok-x.ensures c.next_word-b.ensures c.if-b-ne-BECOMES.true)
 
-pub returns-then-e-ne0 : goal.returns-then-e-ne0
-returns-then-e-ne0 c =
-    assignment_half c.primary-x.ensures c.if-x-ne0.false c.next_word-b.ensures c.if-b-ne-BECOMES.false c.expression-e.ensures c.if-e-ne0.true
+pub returns-in_err-e : goal.returns-in_err-e
+returns-in_err-e c =
+    let p = err_from_is_err_and c.from_residual-in_err-e.result c.from_residual-in_err-e.ensures.1 in rw (p.1, p.2) (assignment_half c.in_ok-x.ensures c.next_word-b.ensures c.if-b-ne-BECOMES.false c.in_err-e.ensures)
 
 pub returns : goal.returns
 returns c =
-    assignment_good c.primary-x.ensures c.if-x-ne0.false c.next_word-b.ensures c.if-b-ne-BECOMES.false c.expression-e.ensures c.if-e-ne0.false (spare c.before.before.before.before.before.before.before.before.before.before.before).0 c.put.ensures c.leaf.ensures
+    let x = c.in_ok-x.ensures in
+    let w = c.next_word-b.ensures in
+    let e = c.in_ok-e.ensures in
+    let m = class_moves _ _ _ w 54 c.if-b-ne-BECOMES.false refl refl in
+    rw c.node.ensures.read
+    (assignment_good x w c.if-b-ne-BECOMES.false e (omega (arith, c.requires, x.within, c.primary.auto, m, w.from, w.to, e.within, c.expression.auto)) c.node.ensures.written)

@@ -1,40 +1,31 @@
 -- `bounds` meets its contract: one law for each of its five ways on.
 use mathlib.Core.Path.{refl}
-use Prim.Native.Nat.{◌≤◌}
 use native.Mathlib.Omega.{arith}
-use Rattle.statements.proofs.Rooms.{Spare}
+use Rattle.std.proofs.lemmas.Result.{err_from_is_err_and}
 use Rattle.statements.proofs.Heads.{bounds_bad, bounds_from, bounds_to, bounds_half, bounds_good}
 use Rattle.statements.proofs.bounds.Goals as goal
-use Rattle.statements.proofs.bounds.Lts as lts
-use Rattle.statements.proofs.bounds.Reads as reads
-use Rattle.statements.proofs.bounds.Tie as tie
 
-abbrev raw-Else4 : Type 0
-raw-Else4 = lts.Else4 tie.the-claims reads.Pre reads.Post
+pub returns-in_err-becomes : goal.returns-in_err-becomes
+returns-in_err-becomes c =
+    let p = err_from_is_err_and c.from_residual.result c.from_residual.ensures.1 in rw (p.1, p.2) (bounds_bad c.in_err-becomes.ensures)
 
--- room for the node at the end, behind those of its parts
-spare : (c : raw-Else4)
-    → Spare c.args.text.now c.expression-b.new.pool c.args.at c.args.count c.expression-b.result.at c.expression-b.result.count
-    × (c.expression-a.result.root ≤ c.expression-b.result.count) × (c.expression-b.result.root ≤ c.expression-b.result.count)
-spare c =
-    omega (arith, c.requires, c.expect-w.ensures.within, c.expect-w.ensures.step refl refl, c.expression-a.ensures.within, c.expression-a.auto, c.expect-t.ensures.within, c.expect-t.ensures.step refl refl, c.expression-b.ensures.within, c.expression-b.auto)
+pub returns-in_err-a : goal.returns-in_err-a
+returns-in_err-a c =
+    let p = err_from_is_err_and c.from_residual-in_err-a.result c.from_residual-in_err-a.ensures.1 in rw (p.1, p.2) (bounds_from c.in_ok-becomes.ensures c.in_err-a.ensures)
 
-pub returns-then-w-ne0 : goal.returns-then-w-ne0
-returns-then-w-ne0 c =
-    bounds_bad c.expect-w.ensures c.if-w-ne0.true
+pub returns-in_err-to : goal.returns-in_err-to
+returns-in_err-to c =
+    let p = err_from_is_err_and c.from_residual-in_err-to.result c.from_residual-in_err-to.ensures.1 in rw (p.1, p.2) (bounds_to c.in_ok-becomes.ensures c.in_ok-a.ensures c.in_err-to.ensures)
 
-pub returns-then-a-ne0 : goal.returns-then-a-ne0
-returns-then-a-ne0 c =
-    bounds_from c.expect-w.ensures c.if-w-ne0.false c.expression-a.ensures c.if-a-ne0.true
-
-pub returns-then-t-ne0 : goal.returns-then-t-ne0
-returns-then-t-ne0 c =
-    bounds_to c.expect-w.ensures c.if-w-ne0.false c.expression-a.ensures c.if-a-ne0.false c.expect-t.ensures c.if-t-ne0.true
-
-pub returns-then-b-ne0 : goal.returns-then-b-ne0
-returns-then-b-ne0 c =
-    bounds_half c.expect-w.ensures c.if-w-ne0.false c.expression-a.ensures c.if-a-ne0.false c.expect-t.ensures c.if-t-ne0.false c.expression-b.ensures c.if-b-ne0.true
+pub returns-in_err-b : goal.returns-in_err-b
+returns-in_err-b c =
+    let p = err_from_is_err_and c.from_residual-in_err-b.result c.from_residual-in_err-b.ensures.1 in rw (p.1, p.2) (bounds_half c.in_ok-becomes.ensures c.in_ok-a.ensures c.in_ok-to.ensures c.in_err-b.ensures)
 
 pub returns : goal.returns
 returns c =
-    bounds_good c.expect-w.ensures c.if-w-ne0.false c.expression-a.ensures c.if-a-ne0.false c.expect-t.ensures c.if-t-ne0.false c.expression-b.ensures c.if-b-ne0.false (spare c.before.before.before.before.before.before.before.before.before.before).0 c.put.ensures c.leaf.ensures
+    let w = c.in_ok-becomes.ensures in
+    let a = c.in_ok-a.ensures in
+    let u = c.in_ok-to.ensures in
+    let b = c.in_ok-b.ensures in
+    rw c.node.ensures.read
+    (bounds_good w a u b (omega (arith, c.requires, w.within, w.step refl refl, a.within, c.expression.auto, u.within, u.step refl refl, b.within, c.expression-2.auto)) c.node.ensures.written)

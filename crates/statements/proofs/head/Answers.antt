@@ -1,42 +1,33 @@
 -- `head` meets its contract: one law for each of its five ways on.
 use mathlib.Core.Path.{refl}
-use Prim.Native.Nat.{◌≤◌}
 use native.Mathlib.Omega.{arith}
+use Rattle.std.proofs.lemmas.Result.{err_from_is_err_and}
 use Rattle.expressions.proofs.Moves.{class_moves}
-use Rattle.statements.proofs.Rooms.{Spare}
 use Rattle.statements.proofs.Heads.{head_none, head_bounds, head_step, head_do, head_good}
 use Rattle.statements.proofs.head.Goals as goal
-use Rattle.statements.proofs.head.Lts as lts
-use Rattle.statements.proofs.head.Reads as reads
-use Rattle.statements.proofs.head.Tie as tie
-
-abbrev raw-Else4 : Type 0
-raw-Else4 = lts.Else4 tie.the-claims reads.Pre reads.Post
-
--- room for the node at the end, behind those of its parts
-spare : (c : raw-Else4)
-    → Spare c.args.text.now c.step-c.new.pool c.args.at c.args.count c.expect-d.result.at c.step-c.result.count
-    × (c.bounds-g.result.root ≤ c.step-c.result.count) × (c.step-c.result.root ≤ c.step-c.result.count) × (c.next_word-v.result.at ≤ 8192)
-spare c =
-    let m = class_moves c.args.text.now c.args.at c.next_word-v.result c.next_word-v.ensures 1 c.if-v-ne-NAME.false refl refl in
-    omega (arith, c.requires, c.next_word-v.ensures.from, c.next_word-v.ensures.to, c.bounds-g.ensures.within, c.bounds-g.auto, c.step-c.ensures.within, c.step-c.auto, c.expect-d.ensures.within, c.expect-d.ensures.step refl refl)
 
 pub returns-then-v-ne-NAME : goal.returns-then-v-ne-NAME
 returns-then-v-ne-NAME c =
-    head_none c.args.p c.next_word-v.ensures c.if-v-ne-NAME.true c.broken.ensures
+    rw c.broken.ensures (head_none c.args.p c.next_word-v.ensures c.if-v-ne-NAME.true)
 
-pub returns-then-g-ne0 : goal.returns-then-g-ne0
-returns-then-g-ne0 c =
-    head_bounds c.args.p c.next_word-v.ensures c.if-v-ne-NAME.false c.bounds-g.ensures c.if-g-ne0.true
+pub returns-in_err-g : goal.returns-in_err-g
+returns-in_err-g c =
+    let p = err_from_is_err_and c.from_residual.result c.from_residual.ensures.1 in rw (p.1, p.2) (head_bounds c.args.p c.next_word-v.ensures c.if-v-ne-NAME.false c.in_err-g.ensures)
 
-pub returns-then-c-ne0 : goal.returns-then-c-ne0
-returns-then-c-ne0 c =
-    head_step c.args.p c.next_word-v.ensures c.if-v-ne-NAME.false c.bounds-g.ensures c.if-g-ne0.false c.step-c.ensures c.if-c-ne0.true
+pub returns-in_err-c : goal.returns-in_err-c
+returns-in_err-c c =
+    let p = err_from_is_err_and c.from_residual-in_err-c.result c.from_residual-in_err-c.ensures.1 in rw (p.1, p.2) (head_step c.args.p c.next_word-v.ensures c.if-v-ne-NAME.false c.in_ok-g.ensures c.in_err-c.ensures)
 
-pub returns-then-d-ne0 : goal.returns-then-d-ne0
-returns-then-d-ne0 c =
-    head_do c.args.p c.next_word-v.ensures c.if-v-ne-NAME.false c.bounds-g.ensures c.if-g-ne0.false c.step-c.ensures c.if-c-ne0.false c.expect-d.ensures c.if-d-ne0.true
+pub returns-in_err-end : goal.returns-in_err-end
+returns-in_err-end c =
+    let p = err_from_is_err_and c.from_residual-in_err-end.result c.from_residual-in_err-end.ensures.1 in rw (p.1, p.2) (head_do c.args.p c.next_word-v.ensures c.if-v-ne-NAME.false c.in_ok-g.ensures c.in_ok-c.ensures c.in_err-end.ensures)
 
 pub returns : goal.returns
 returns c =
-    head_good c.args.p c.next_word-v.ensures c.if-v-ne-NAME.false c.bounds-g.ensures c.if-g-ne0.false c.step-c.ensures c.if-c-ne0.false c.expect-d.ensures c.if-d-ne0.false (spare c.before.before.before.before.before.before.before.before.before.before.before).0 c.put.ensures c.leaf.ensures
+    let w = c.next_word-v.ensures in
+    let g = c.in_ok-g.ensures in
+    let s = c.in_ok-c.ensures in
+    let e = c.in_ok-end.ensures in
+    let m = class_moves _ _ _ w 1 c.if-v-ne-NAME.false refl refl in
+    rw c.node.ensures.read
+    (head_good c.args.p w c.if-v-ne-NAME.false g s e (omega (arith, c.requires, w.from, w.to, m, g.within, c.bounds.auto, s.within, c.step.auto, e.within, e.step refl refl)) c.node.ensures.written)

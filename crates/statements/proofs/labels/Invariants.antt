@@ -6,8 +6,8 @@ use Rattle.statements.proofs.labels.Given as goal
 
 abbrev pub invariant-loop-l : goal.invariant-loop-l
 invariant-loop-l l =
-    Turn (LabelsDid l.text) l.text l.initial.pool l.at l.count l.before l.pool l.from l.nodes l.root
+    Turn (LabelsDid l.text) l.text l.initial.pool l.initial.read.at l.initial.read.count l.initial.read.root l.pool l.read.at l.read.count l.read.root
 
 abbrev pub decreases-loop-l : goal.decreases-loop-l
 decreases-loop-l l =
-    length l.text - l.from
+    length l.text - l.read.at

@@ -12,7 +12,7 @@ pub returns-then-s-eq0 : goal.returns-then-s-eq0
 returns-then-s-eq0 c =
     let A = c.args in
     record {
-      code = refl;
+      at = refl;
       more = omega arith;
       few = omega arith;
       first = omega arith;
@@ -27,7 +27,7 @@ returns-then-before-eq0 c =
     let A = c.args in
     let old = A.pool.now in
     record {
-      code = refl;
+      at = refl;
       more = omega arith;
       few = omega arith;
       first = omega arith;
@@ -42,9 +42,9 @@ returns c =
     let A = c.args in
     let old = A.pool.now in
     let n = A.count in
-    rw (c.leaf.ensures, c.put.ensures)
+    rw (c.node.ensures.read, c.node.ensures.written)
     (record {
-      code = refl;
+      at = refl;
       more = omega arith;
       few = omega arith;
       first = omega arith;

@@ -8,4 +8,4 @@ returns-then-w-eq-BY c =
 
 pub returns : goal.returns
 returns c =
-    step_one c.args.p c.next_word-w.ensures c.if-w-eq-BY.false c.requires.0 c.requires.1 c.put.ensures c.leaf.ensures
+    rw c.node.ensures.read (step_one c.args.p c.next_word-w.ensures c.if-w-eq-BY.false c.requires.0 c.requires.1 c.node.ensures.written)
