@@ -1,32 +1,24 @@
--- The smallest of the places of faults, carried as one more than it, and 0 where there is none.
-use Rattle.std.specs.Prelude.{Bool, true, false, List, ℕ, zero, suc, min, ltb}
-use Rattle.std.proofs.Math.Option.{Option, none, some}
+-- The smallest of the places of faults, None where there is none.
+use Rattle.std.specs.Prelude.{Bool, true, List, ℕ, min, ltb, Option, None, Some}
+use Rattle.std.proofs.Math.Option as Math
+use Rattle.std.proofs.Math.Option.{none, some}
 use Rattle.paper.specs.Judge.{smallest}
 
-abbrev pub carried : Option ℕ → ℕ
-carried none = 0
-carried (some p) = suc p
+-- as the functions say it
+abbrev pub carried : {T : Type 0} → Math.Option T → Option T
+carried none = None
+carried (some x) = Some x
 
-unfoldable pub soonest : List ℕ → ℕ
+unfoldable pub soonest : List ℕ → Option ℕ
 soonest ps = carried (smallest ps)
 
 -- the sooner of two
-abbrev pub sooner : ℕ → ℕ → ℕ
-sooner zero b = b
-sooner (suc a) zero = suc a
-sooner (suc a) (suc b) = suc (min a b)
-
--- a rule's own fault, where its parts have none
-abbrev pub or_else_of : ℕ → ℕ → ℕ
-or_else_of zero own = own
-or_else_of (suc p) own = suc p
-
--- a fault at p, where a test fails
-abbrev pub unless_of : Bool → ℕ → ℕ
-unless_of true p = 0
-unless_of false p = suc p
+abbrev pub sooner : Option ℕ → Option ℕ → Option ℕ
+sooner None b = b
+sooner (Some p) None = Some p
+sooner (Some p) (Some q) = Some (min p q)
 
 -- whether a fault at p would be sooner than the soonest so far
-abbrev pub matter : ℕ → ℕ → Bool
-matter zero p = true
-matter (suc b) p = ltb p b
+abbrev pub matter : Option ℕ → ℕ → Bool
+matter None p = true
+matter (Some q) p = ltb p q

@@ -1,49 +1,38 @@
-// The smallest of the places of faults: one more than it is carried, and 0 where there is none.
+// The smallest of the places of faults, None where there is none.
 #![tactic(auto)]
 
-ghost use Rattle.std.specs.Prelude.{◌≡◌, suc};
-ghost use Rattle.faults.specs.Soonest.{sooner, or_else_of, unless_of, matter};
+ghost use Rattle.std.specs.Prelude.{◌≡◌, not, Some};
+ghost use Rattle.std.specs.Bool.{then_some};
+ghost use Rattle.std.specs.Option.{option_or};
+ghost use Rattle.faults.specs.Soonest.{sooner, matter};
 
 // The sooner of two.
-pub fn sooner_of(a: usize, b: usize) -> usize
+pub fn sooner_of(a: Option<usize>, b: Option<usize>) -> Option<usize>
     ensures { result ≡ sooner a b }
 {
-    if a == 0 {
-        return b;
+    match (a, b) {
+        (Some(p), Some(q)) => Some(p.min(q)),
+        _ => a.or(b),
     }
-    if b == 0 {
-        return a;
-    }
-    if a < b { a } else { b }
 }
 
 // What a fault at a place makes of the soonest so far.
-pub fn with_fault(best: usize, place: u16) -> usize
-    ensures { result ≡ sooner best (suc place) }
+pub fn with_fault(best: Option<usize>, place: u16) -> Option<usize>
+    ensures { result ≡ sooner best (Some place) }
 {
-    sooner_of(best, place as usize + 1)
+    sooner_of(best, Some(place as usize))
 }
 
 // Whether a fault at a place would be sooner than the soonest so far.
-pub fn matters(best: usize, place: u16) -> bool
+pub fn matters(best: Option<usize>, place: u16) -> bool
     ensures { result ≡ matter best place }
 {
-    if best == 0 {
-        return true;
-    }
-    (place as usize) + 1 < best
+    best.is_none_or(|soonest| (place as usize) < soonest)
 }
 
-// A rule's own fault, where its parts have none.
-pub fn or_else(parts: usize, own: usize) -> usize
-    ensures { result ≡ or_else_of parts own }
+// The faults of a rule: those of its parts, else its own one at a place, where its test fails.
+pub fn of_rule(parts: Option<usize>, holds: bool, place: u16) -> Option<usize>
+    ensures { result ≡ option_or parts (then_some (not holds) place) }
 {
-    if parts == 0 { own } else { parts }
-}
-
-// A fault at a place, where a test fails.
-pub fn unless(holds: bool, place: u16) -> usize
-    ensures { result ≡ unless_of holds place }
-{
-    if holds { 0 } else { (place as usize) + 1 }
+    parts.or((!holds).then_some(place as usize))
 }

@@ -1,15 +1,18 @@
 -- The faults of a list of statements and of arms, from those of the children of its node.
-use mathlib.Core.Path.{◌≡◌, refl, sym, ap, ap₂, ◌∙◌}
+use mathlib.Core.Path.{◌≡◌, refl, sym, ap, ◌∙◌}
 use mathlib.Core.List.{List, [], ◌++◌, append_assoc, append-nil}
-use Prim.Native.Nat.{ℕ, zero, suc, ◌-◌, ◌≤◌, ◌<◌}
-use native.Mathlib.Omega.{arith}
-use lib.ListN.{get_or, get_or-eq_default}
+use Prim.Native.Nat.{ℕ, zero, suc, ◌-◌}
+use Rattle.std.specs.Prelude.{Option}
 use Rattle.paper.specs.Source.{Name, Expr, Stmts, done, assign, choice, select, loop}
 use Rattle.paper.specs.Heights.{height, subscripts, measured, arm_faults, statement_faults, height_faults}
 use Rattle.tree.specs.Nodes.{word_of, child_of}
-use Rattle.tree.specs.Trees.{FrontForm, front_forms, front_from, front_at, arms_forms, arms_at, expr_at, labels_at, program_at, IsHeight}
-use Rattle.tree.proofs.Decodes.{All, none, ◌&◌, each, child_most}
-use Rattle.tree.proofs.Frames.{skip, front_form, front_nil, no_arms, arms_form, arms_below, arms_nil}
+use Rattle.tree.specs.Trees.{FrontForm, front_forms, front_from, front_at, arms_at, expr_at, labels_at, program_at, IsHeight}
+use Rattle.tree.specs.Kinds.{statement_of, IsStatement, IsArms}
+use Rattle.tree.specs.declared.kinds.Statement.{Statement}
+use Rattle.tree.specs.declared.kinds.Statement.TheVariants as F
+use Rattle.tree.specs.declared.kinds.Arms.TheVariants as A
+use Rattle.tree.proofs.Decodes.{All, none, ◌&◌, each}
+use Rattle.tree.proofs.Frames.{skip}
 use Rattle.heights.specs.Measured.{With, assigned, headed, listed, branched}
 use Rattle.heights.proofs.Withs.{with_same, with_none, with_then, with_turned}
 
@@ -95,106 +98,75 @@ front_list t p i = front_from_lem i t p i
 
 -- ---- statements
 
-pub nil_listed : (best : ℕ) (p : List ℕ) → With best best (λ t. listed t p 0)
-nil_listed best p = with_none best _ (λ t. ap (λ k. statement_faults k 1) (front_nil t p done) ∙ done_faults 1)
-
-module _ (p : List ℕ) (i : ℕ) (some : 0 < i) where
-  abbrev w : ℕ
-  w = word_of p i 0
-
+module _ (p : List ℕ) (i : ℕ) where
   abbrev a : ℕ
   a = child_of p i 1
 
   abbrev b : ℕ
   b = child_of p i 2
 
-  -- the faults by the form of the kind
-  form : (t : List ℕ) (v : ℕ) → w - 40 ≡ v → listed t p i ≡ statement_faults (get_or front_forms v skip t p i (front_at t p) done) 1
-  form t v e =
-      ap (λ k. statement_faults k 1)
-      (front_form t p i w _ done some refl (ap (λ n. get_or front_forms n skip) e))
+  module _ (best r : Option ℕ) where
+    -- by what the faults of such a statement come to
+    by_view : (s : Statement) (own : List ℕ → List ℕ) → IsStatement p i s → With best r own
+        → ((t : List ℕ) → statement_faults (statement_of p i t done s) 1 ≡ own t) → With best r (λ t. listed t p i)
+    by_view s own v h g = with_same best r own _ h (λ t. ap (λ k. statement_faults k 1) (v.list t done) ∙ g t)
 
-  module _ (best r : ℕ) where
-    -- by what the form's faults come to
-    from_form : (v : ℕ) (own : List ℕ → List ℕ) → w - 40 ≡ v → With best r own
-        → ((t : List ℕ) → statement_faults (get_or front_forms v skip t p i (front_at t p) done) 1 ≡ own t) → With best r (λ t. listed t p i)
-    from_form v own e h g = with_same best r own _ h (λ t. form t v e ∙ g t)
+    pub assign_listed : IsStatement p i F.Assignment → With best r (λ t. assigned t p i) → With best r (λ t. listed t p i)
+    unfolding statement_faults
+    assign_listed v h = by_view F.Assignment _ v h (λ t. append-nil _)
 
-    pub assign_listed : w < 41 → With best r (λ t. assigned t p i) → With best r (λ t. listed t p i)
-    unfolding front_forms statement_faults
-    assign_listed l h = from_form 0 _ (omega arith) h (λ t. append-nil _)
-
-    pub choice_listed : (x : ℕ) → w ≡ 41 → With best x (λ t. measured (expr_at t p a))
+    pub choice_listed : (x : Option ℕ) → IsStatement p i F.Choice → With best x (λ t. measured (expr_at t p a))
         → With x r (λ t. branched t p b) → With best r (λ t. listed t p i)
-    unfolding front_forms statement_faults
-    choice_listed x e h k =
-        from_form 1 _ (omega arith) (with_then best x r _ _ h k) (λ t. append-nil _ ∙ append_assoc (measured (expr_at t p a)) _ _)
+    unfolding statement_faults
+    choice_listed x v h k =
+        by_view F.Choice _ v (with_then best x r _ _ h k) (λ t. append-nil _ ∙ append_assoc (measured (expr_at t p a)) _ _)
 
-    pub select_listed : (x h : ℕ) → w ≡ 42 → With best x (λ t. subscripts (expr_at t p a)) → IsHeight p a h
+    pub select_listed : (x : Option ℕ) (h : ℕ) → IsStatement p i F.Selection → With best x (λ t. subscripts (expr_at t p a)) → IsHeight p a h
         → With x r (λ t. statement_faults (arms_at t p b) h) → With best r (λ t. listed t p i)
-    unfolding front_forms statement_faults
-    select_listed x h e s m k =
-        from_form 2 _ (omega arith) (with_then best x r _ _ s k)
-        (λ t.
-        append-nil _
-        ∙ ap₂ (λ c n. subscripts (expr_at t p a) ++ statement_faults c n) (arms_below t p i b (child_most p i 2)) (sym (m.height t)))
+    unfolding statement_faults
+    select_listed x h v s m k =
+        by_view F.Selection _ v (with_then best x r _ _ s k)
+        (λ t. append-nil _ ∙ ap (λ n. subscripts (expr_at t p a) ++ statement_faults (arms_at t p b) n) (sym (m.height t)))
 
-    pub loop_listed : (x : ℕ) → w ≡ 43 → With best x (λ t. headed t p a) → With x r (λ t. listed t p b) → With best r (λ t. listed t p i)
-    unfolding front_forms statement_faults
-    loop_listed x e h k = from_form 3 _ (omega arith) (with_then best x r _ _ h k) (λ t. append-nil _)
+    pub loop_listed : (x : Option ℕ) → IsStatement p i F.Loop → With best x (λ t. headed t p a) → With x r (λ t. listed t p b)
+        → With best r (λ t. listed t p i)
+    unfolding statement_faults
+    loop_listed x v h k = by_view F.Loop _ v (with_then best x r _ _ h k) (λ t. append-nil _)
 
     -- the last statement, and those before it
-    pub list_listed : (x : ℕ) → w ≡ 44 → With best x (λ t. listed t p b) → With x r (λ t. listed t p a) → With best r (λ t. listed t p i)
-    unfolding front_forms
-    list_listed x e h k =
-        from_form 4 (λ t. listed t p a ++ listed t p b) (omega arith)
+    pub list_listed : (x : Option ℕ) → IsStatement p i F.List → With best x (λ t. listed t p b) → With x r (λ t. listed t p a)
+        → With best r (λ t. listed t p i)
+    list_listed x v h k =
+        by_view F.List (λ t. listed t p a ++ listed t p b) v
         (with_turned best r (λ t. listed t p b) (λ t. listed t p a) (with_then best x r _ _ h k))
         (λ t. front_list t p a (front_at t p b done) (front_apart (front_at t p b) (front_list t p b) done done_apart) 1)
 
-  pub other_listed : (best : ℕ) → 44 < w → With best best (λ t. listed t p i)
-  unfolding front_forms
-  other_listed best l =
-      let m : 5 ≤ w - 40 = omega arith in
-      with_none best _ (λ t.
-      ap (λ k. statement_faults k 1) (front_form t p i w skip done some refl (get_or-eq_default front_forms skip m))
-      ∙ done_faults 1)
+  pub no_list : (best : Option ℕ) → IsStatement p i F.Nothing → With best best (λ t. listed t p i)
+  no_list best v = by_view best best F.Nothing (λ t. []) v (with_none best _ (λ t. refl)) (λ t. done_faults 1)
 
--- ---- arms
+  -- ---- arms, below a selector of the height h
 
-pub nil_arms : (best h : ℕ) (p : List ℕ) → With best best (λ t. statement_faults (arms_at t p 0) h)
-nil_arms best h p = with_none best _ (λ t. ap (λ k. statement_faults k h) (arms_nil t p) ∙ done_faults h)
+  module _ (h : ℕ) where
+    pub arm_listed : (best x y r : Option ℕ) → IsArms p i A.Arm → With best x (λ t. arm_faults h (labels_at p (child_of p i 1)))
+        → With x y (λ t. listed t p (child_of p i 2)) → With y r (λ t. statement_faults (arms_at t p (child_of p i 3)) h)
+        → With best r (λ t. statement_faults (arms_at t p i) h)
+    unfolding statement_faults
+    arm_listed best x y r v s k m =
+        with_same best r _ _ (with_then best y r _ _ (with_then best x y _ _ s k) m) (λ t. ap (λ k. statement_faults k h) (v.list t))
 
-module _ (p : List ℕ) (i h : ℕ) (some : 0 < i) where
-  abbrev v : ℕ
-  v = word_of p i 0
+    pub else_listed : (best r : Option ℕ) → IsArms p i A.Otherwise → With best r (λ t. listed t p (child_of p i 1))
+        → With best r (λ t. statement_faults (arms_at t p i) h)
+    else_listed best r v k =
+        with_same best r _ _ k
+        (λ t.
+        ap (λ k. statement_faults k h) (v.list t)
+        ∙ front_apart (front_at t p (child_of p i 1)) (front_list t p (child_of p i 1)) done done_apart h)
 
-  pub arm_listed : (best x y r : ℕ) → v < 49 → With best x (λ t. arm_faults h (labels_at p (child_of p i 1)))
-      → With x y (λ t. listed t p (child_of p i 2)) → With y r (λ t. statement_faults (arms_at t p (child_of p i 3)) h)
-      → With best r (λ t. statement_faults (arms_at t p i) h)
-  unfolding arms_forms statement_faults
-  arm_listed best x y r l s k m =
-      let e : v - 48 ≡ 0 = omega arith in
-      with_same best r _ _ (with_then best y r _ _ (with_then best x y _ _ s k) m)
-      (λ t. ap (λ k. statement_faults k h) (arms_form t p i v _ some refl (ap (λ n. get_or arms_forms n no_arms) e)))
-
-  pub else_listed : (best r : ℕ) → v ≡ 49 → With best r (λ t. listed t p (child_of p i 1)) → With best r (λ t. statement_faults (arms_at t p i) h)
-  unfolding arms_forms
-  else_listed best r e k =
-      with_same best r _ _ k
-      (λ t.
-      ap (λ k. statement_faults k h) (arms_form t p i 49 _ some e refl)
-      ∙ front_apart (front_at t p (child_of p i 1)) (front_list t p (child_of p i 1)) done done_apart h)
-
-  pub other_arms : (best : ℕ) → 49 < v → With best best (λ t. statement_faults (arms_at t p i) h)
-  unfolding arms_forms
-  other_arms best l =
-      let m : 2 ≤ v - 48 = omega arith in
-      with_none best _ (λ t.
-      ap (λ k. statement_faults k h) (arms_form t p i v no_arms some refl (get_or-eq_default arms_forms no_arms m))
-      ∙ done_faults h)
+    pub no_arms : (best : Option ℕ) → IsArms p i A.Nothing → With best best (λ t. statement_faults (arms_at t p i) h)
+    no_arms best v = with_none best _ (λ t. ap (λ k. statement_faults k h) (v.list t) ∙ done_faults h)
 
 -- ---- a program
 
-pub program_listed : (best r : ℕ) (p : List ℕ) (i : ℕ) → With best r (λ t. listed t p (child_of p i 2)) → With best r (λ t. height_faults (program_at t p i))
+pub program_listed : (best r : Option ℕ) (p : List ℕ) (i : ℕ) → With best r (λ t. listed t p (child_of p i 2)) → With best r (λ t. height_faults (program_at t p i))
 unfolding height_faults program_at
 program_listed best r p i h = h

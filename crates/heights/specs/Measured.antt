@@ -1,5 +1,5 @@
 -- What the walk over the flat tree answers, for any content of the pool and any text.
-use Rattle.std.specs.Prelude.{◌≡◌, List, [], ◌∷◌, ◌++◌, ℕ, ◌+◌, ◌≤◌}
+use Rattle.std.specs.Prelude.{◌≡◌, List, [], ◌∷◌, ◌++◌, ℕ, ◌+◌, ◌≤◌, Option}
 use Rattle.paper.specs.Source.{Expr, Label, done}
 use Rattle.paper.specs.Heights.{height, first_word, too_high, subscripts, measured, test_height, joined_height, label_place, statement_faults}
 use Rattle.faults.specs.Soonest.{soonest, sooner}
@@ -7,7 +7,7 @@ use Rattle.tree.specs.Nodes.{child_of}
 use Rattle.tree.specs.Trees.{expr_at, labels_at, front_at}
 
 -- the soonest so far with faults of the tree that the pool and a text t make
-abbrev pub With : ℕ → ℕ → (List ℕ → List ℕ) → Type 0
+abbrev pub With : Option ℕ → Option ℕ → (List ℕ → List ℕ) → Type 0
 With best r faults = (t : List ℕ) → r ≡ sooner best (soonest (faults t))
 
 -- ---- parts of the definitions

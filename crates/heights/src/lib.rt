@@ -1,41 +1,22 @@
-// Refusal 7: the soonest expression that is too high, walked over the flat tree. What is carried is one more than its place, and 0
+// Refusal 7: the soonest expression that is too high, walked over the flat tree. The place of the soonest so far is carried, None
 // where there is none.
 #![tactic(auto)]
 
 ghost use Rattle.std.specs.Prelude.{◌≡◌, List, ℕ, ◌+◌, ◌*◌, ◌<◌, ◌≤◌, length};
-ghost use Rattle.paper.specs.Heights.{first_word, too_high, subscripts, measured, test_height, label_place, arm_faults, statement_faults, height_faults};
+ghost use Rattle.paper.specs.Heights.{too_high, subscripts, measured, test_height, label_place, arm_faults, statement_faults, height_faults};
 ghost use Rattle.faults.specs.Soonest.{soonest};
 ghost use Rattle.tree.specs.Trees.{expr_at, label_at, labels_at, arms_at, program_at};
 ghost use Rattle.heights.specs.Measured.{With, itself, assigned, headed, listed, branched, first_place, IsJoined};
 
 use faults::with_fault;
-use tree::{child, height_of, word};
+use tree::kinds::{Arms, Expression, Statement};
+use tree::node::{Node, node_at};
 
 // ---- expressions
 
-// The place of an expression's first word.
-fn first_word(pool: &[u16], i: usize) -> u16
-    requires { 4 * i + 4 ≤ length pool.now }
-    ensures { (t : List ℕ) → result ≡ first_word (expr_at t pool.now i) }
-{
-    if i == 0 {
-        return 0;
-    }
-    let k = word(pool, i, 0);
-    if k == 0 {
-        return 0;
-    }
-    if 24 < k {
-        return 0;
-    }
-    if k < 11 {
-        return word(pool, i, 3);
-    }
-    first_word(pool, child(pool, i, 1))
-}
-
 // A fault where more than 32 stand above one another.
-fn too_high(best: usize, place: u16, height: usize) -> usize
+#[tactic(auto, using(faults::proofs::Soonest::soonest_steps))]
+fn too_high(best: Option<usize>, place: u16, height: usize) -> Option<usize>
     ensures { With best result (λ t. too_high place height) }
 {
     if 32 < height {
@@ -46,207 +27,190 @@ fn too_high(best: usize, place: u16, height: usize) -> usize
 }
 
 // An expression by itself, without its subscripts.
-fn by_itself(pool: &[u16], i: usize, best: usize) -> usize
-    requires { 4 * i + 4 ≤ length pool.now }
-    ensures { With best result (λ t. itself (expr_at t pool.now i)) }
+fn by_itself(n: Node, best: Option<usize>) -> Option<usize>
+    ensures { With best result (λ t. itself (expr_at t n.entry.pool.now n.entry.at)) }
 {
-    too_high(best, first_word(pool, i), height_of(pool, i))
+    too_high(best, n.first_word(), n.height())
 }
 
 // Each subscript in an expression. A chain of operators goes on to its left side.
-fn subscripts(pool: &[u16], i: usize, best: usize) -> usize
-    requires { 4 * i + 4 ≤ length pool.now }
-    ensures { With best result (λ t. subscripts (expr_at t pool.now i)) }
+fn subscripts(n: Node, best: Option<usize>) -> Option<usize>
+    ensures { With best result (λ t. subscripts (expr_at t n.entry.pool.now n.entry.at)) }
 {
-    if i == 0 {
-        return best;
+    match n.expression() {
+        Expression::Element => {
+            let a = n.child(1);
+            subscripts(a, by_itself(a, best))
+        }
+        Expression::Minus
+        | Expression::Complement
+        | Expression::Brackets
+        | Expression::Conversion(..) => { subscripts(n.child(1), best) }
+        Expression::Binary(_) => {
+            let x = subscripts(n.child(2), best);
+            subscripts(n.child(1), x)
+        }
+        _ => best,
     }
-    let k = word(pool, i, 0);
-    if k < 6 {
-        return best;
-    }
-    if 24 < k {
-        return best;
-    }
-    let a = child(pool, i, 1);
-    if k == 6 {
-        let x = by_itself(pool, a, best);
-        return subscripts(pool, a, x);
-    }
-    if k < 11 {
-        return subscripts(pool, a, best);
-    }
-    let x = subscripts(pool, child(pool, i, 2), best);
-    subscripts(pool, a, x)
 }
 
 // An expression and its subscripts.
-fn measured(pool: &[u16], i: usize, best: usize) -> usize
-    requires { 4 * i + 4 ≤ length pool.now }
-    ensures { With best result (λ t. measured (expr_at t pool.now i)) }
+#[tactic(auto, using(faults::proofs::Soonest::soonest_steps), unfolding(paper::specs::Heights::measured))]
+fn measured(n: Node, best: Option<usize>) -> Option<usize>
+    ensures { With best result (λ t. measured (expr_at t n.entry.pool.now n.entry.at)) }
 {
-    let x = by_itself(pool, i, best);
-    subscripts(pool, i, x)
+    let x = by_itself(n, best);
+    subscripts(n, x)
 }
 
 // ---- the tests of a CASE, whose selector has the height `h`: at most one for each node of the pool, so that sums fit
 
 // The height of a label's test.
-fn test_height(pool: &[u16], h: usize, i: usize) -> usize
-    requires { (4 * i + 4 ≤ length pool.now) × (4 * h ≤ length pool.now) }
-    ensures { result ≡ test_height h (label_at pool.now i) }
+fn test_height(n: Node, h: usize) -> usize
+    requires { 4 * h ≤ length n.pool.now }
+    ensures { result ≡ test_height h (label_at n.entry.pool.now n.entry.at) }
 {
-    if word(pool, i, 0) == 31 { h + 2 } else { h + 1 }
+    if n.is_range() { h + 2 } else { h + 1 }
 }
 
 // The tests of labels, each further one joined by OR to those before it.
-fn joined_height(pool: &[u16], h: usize, i: usize) -> usize
-    requires { (4 * i + 4 ≤ length pool.now) × (4 * h ≤ length pool.now) × (0 < i) }
-    ensures { IsJoined pool.now h i result }
+fn joined_height(n: Node, h: usize) -> usize
+    requires { (4 * h ≤ length n.pool.now) × (0 < n.at) }
+    ensures { IsJoined n.entry.pool.now h n.entry.at result }
 {
-    let b = child(pool, i, 1);
-    let t = test_height(pool, h, child(pool, i, 2));
-    if b == 0 {
-        return t;
+    let before = n.child(1);
+    let test = test_height(n.child(2), h);
+    if before.at == 0 {
+        return test;
     }
-    let n = joined_height(pool, h, b);
-    if n < t { t + 1 } else { n + 1 }
+    joined_height(before, h).max(test) + 1
 }
 
 // The place of a label.
-fn label_place(pool: &[u16], i: usize) -> u16
-    requires { 4 * i + 4 ≤ length pool.now }
-    ensures { result ≡ label_place (label_at pool.now i) }
+fn label_place(n: Node) -> u16
+    ensures { result ≡ label_place (label_at n.entry.pool.now n.entry.at) }
 {
-    if word(pool, i, 0) == 31 {
-        return word(pool, child(pool, i, 1), 3);
+    if n.is_range() {
+        n.child(1).place()
+    } else {
+        n.place()
     }
-    word(pool, i, 3)
 }
 
 // The place of the first label.
-fn first_label(pool: &[u16], i: usize) -> u16
-    requires { (4 * i + 4 ≤ length pool.now) × (0 < i) }
-    ensures { result ≡ first_place (labels_at pool.now i) }
+fn first_label(n: Node) -> u16
+    requires { 0 < n.at }
+    ensures { result ≡ first_place (labels_at n.entry.pool.now n.entry.at) }
 {
-    let b = child(pool, i, 1);
-    if b == 0 {
-        return label_place(pool, child(pool, i, 2));
+    let before = n.child(1);
+    if before.at == 0 {
+        return label_place(n.child(2));
     }
-    first_label(pool, b)
+    first_label(before)
 }
 
 // The tests of an arm.
-fn tests(pool: &[u16], h: usize, i: usize, best: usize) -> usize
-    requires { (4 * i + 4 ≤ length pool.now) × (4 * h ≤ length pool.now) }
-    ensures { With best result (λ t. arm_faults h (labels_at pool.now i)) }
+#[tactic(auto, using(tree::proofs::Frames::labels_nil, faults::proofs::Soonest::soonest_steps))]
+fn tests(n: Node, h: usize, best: Option<usize>) -> Option<usize>
+    requires { 4 * h ≤ length n.pool.now }
+    ensures { With best result (λ t. arm_faults h (labels_at n.entry.pool.now n.entry.at)) }
 {
-    if i == 0 {
+    if n.at == 0 {
         return best;
     }
-    too_high(best, first_label(pool, i), joined_height(pool, h, i))
+    too_high(best, first_label(n), joined_height(n, h))
 }
 
 // ---- statements
 
 // An assignment: the subscript of its target, and its right side.
-fn assignment(pool: &[u16], i: usize, best: usize) -> usize
-    requires { 4 * i + 4 ≤ length pool.now }
-    ensures { With best result (λ t. assigned t pool.now i) }
+#[tactic(auto, using(faults::proofs::Soonest::soonest_steps))]
+fn assignment(n: Node, best: Option<usize>) -> Option<usize>
+    ensures { With best result (λ t. assigned t n.entry.pool.now n.entry.at) }
 {
-    let x = subscripts(pool, child(pool, i, 1), best);
-    measured(pool, child(pool, i, 2), x)
+    let x = subscripts(n.child(1), best);
+    measured(n.child(2), x)
 }
 
 // The head of a FOR: its bounds and its step.
-fn head(pool: &[u16], i: usize, best: usize) -> usize
-    requires { 4 * i + 4 ≤ length pool.now }
-    ensures { With best result (λ t. headed t pool.now i) }
+#[tactic(auto, using(faults::proofs::Soonest::soonest_steps))]
+fn head(n: Node, best: Option<usize>) -> Option<usize>
+    ensures { With best result (λ t. headed t n.entry.pool.now n.entry.at) }
 {
-    let g = child(pool, i, 1);
-    let x = measured(pool, child(pool, g, 1), best);
-    let y = measured(pool, child(pool, g, 2), x);
-    measured(pool, child(pool, i, 2), y)
+    let bounds = n.child(1);
+    let x = measured(bounds.child(1), best);
+    let y = measured(bounds.child(2), x);
+    measured(n.child(2), y)
 }
 
 // The selector of a CASE, which is measured only in its tests: here its subscripts.
-fn selector(pool: &[u16], i: usize, best: usize) -> usize
-    requires { 4 * i + 4 ≤ length pool.now }
-    ensures { With best result (λ t. subscripts (expr_at t pool.now i)) }
+fn selector(n: Node, best: Option<usize>) -> Option<usize>
+    ensures { With best result (λ t. subscripts (expr_at t n.entry.pool.now n.entry.at)) }
 {
-    subscripts(pool, i, best)
+    subscripts(n, best)
 }
 
 // The two lists of an IF.
 #[cycle(walk)]
-fn branches(pool: &[u16], i: usize, best: usize) -> usize
-    requires { 4 * i + 4 ≤ length pool.now }
-    ensures { With best result (λ t. branched t pool.now i) }
+#[tactic(auto, using(faults::proofs::Soonest::soonest_steps))]
+fn branches(n: Node, best: Option<usize>) -> Option<usize>
+    ensures { With best result (λ t. branched t n.entry.pool.now n.entry.at) }
 {
-    let x = statements(pool, child(pool, i, 1), best);
-    statements(pool, child(pool, i, 2), x)
+    let x = statements(n.child(1), best);
+    statements(n.child(2), x)
 }
 
 // A list of statements, which goes on to what stands before its last one.
 #[cycle(walk)]
-fn statements(pool: &[u16], i: usize, best: usize) -> usize
-    requires { 4 * i + 4 ≤ length pool.now }
-    ensures { With best result (λ t. listed t pool.now i) }
+fn statements(n: Node, best: Option<usize>) -> Option<usize>
+    ensures { With best result (λ t. listed t n.entry.pool.now n.entry.at) }
 {
-    if i == 0 {
-        return best;
+    let a = n.child(1);
+    let b = n.child(2);
+    match n.statement() {
+        Statement::Nothing => best,
+        Statement::Assignment => assignment(n, best),
+        Statement::Choice => {
+            let x = measured(a, best);
+            branches(b, x)
+        }
+        Statement::Selection => {
+            let x = selector(a, best);
+            arms(b, a.height(), x)
+        }
+        Statement::Loop => {
+            let x = head(a, best);
+            statements(b, x)
+        }
+        Statement::List => {
+            let x = statements(b, best);
+            statements(a, x)
+        }
     }
-    let k = word(pool, i, 0);
-    if 44 < k {
-        return best;
-    }
-    if k < 41 {
-        return assignment(pool, i, best);
-    }
-    let a = child(pool, i, 1);
-    let b = child(pool, i, 2);
-    if k == 41 {
-        let x = measured(pool, a, best);
-        return branches(pool, b, x);
-    }
-    if k == 42 {
-        let x = selector(pool, a, best);
-        return arms(pool, b, height_of(pool, a), x);
-    }
-    if k == 43 {
-        let x = head(pool, a, best);
-        return statements(pool, b, x);
-    }
-    let x = statements(pool, b, best);
-    statements(pool, a, x)
 }
 
 // The arms of a CASE whose selector has the height `h`, and its ELSE list.
 #[cycle(walk)]
-fn arms(pool: &[u16], i: usize, h: usize, best: usize) -> usize
-    requires { (4 * i + 4 ≤ length pool.now) × (4 * h ≤ length pool.now) }
-    ensures { With best result (λ t. statement_faults (arms_at t pool.now i) h) }
+fn arms(n: Node, h: usize, best: Option<usize>) -> Option<usize>
+    requires { 4 * h ≤ length n.pool.now }
+    ensures { With best result (λ t. statement_faults (arms_at t n.entry.pool.now n.entry.at) h) }
 {
-    if i == 0 {
-        return best;
+    let a = n.child(1);
+    match n.arms() {
+        Arms::Nothing => best,
+        Arms::Otherwise => statements(a, best),
+        Arms::Arm => {
+            let x = tests(a, h, best);
+            let y = statements(n.child(2), x);
+            arms(n.child(3), h, y)
+        }
     }
-    let k = word(pool, i, 0);
-    if 49 < k {
-        return best;
-    }
-    let a = child(pool, i, 1);
-    if k == 49 {
-        return statements(pool, a, best);
-    }
-    let x = tests(pool, h, a, best);
-    let y = statements(pool, child(pool, i, 2), x);
-    arms(pool, child(pool, i, 3), h, y)
 }
 
 // The soonest of a program.
-pub fn first_too_high(pool: &[u16], root: usize) -> usize
+pub fn first_too_high(pool: &[u16], root: usize) -> Option<usize>
     requires { 4 * root + 4 ≤ length pool.now }
     ensures { (t : List ℕ) → result ≡ soonest (height_faults (program_at t pool.now root)) }
 {
-    statements(pool, child(pool, root, 2), 0)
+    statements(node_at(pool, root).child(2), None)
 }

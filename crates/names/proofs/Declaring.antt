@@ -145,31 +145,42 @@ module _ (t p : List ℕ) where
   no_declarations old s l = rw (declared_nil t p) (declares_none t old s)
 
   -- the names before and one more
-  module _ (old mid new : List ℕ) (i a q size : ℕ) (s m r : Seen) (some : 0 < i) (e : a ≡ child_of p i 1) (w : q ≡ place_at p i) where
+  module _ (old mid new : List ℕ) (i q size : ℕ) (s m r : Seen) (some : 0 < i) (w : q ≡ place_at p i) where
+    abbrev a : ℕ
+    a = child_of p i 1
+
     abbrev last : Named
     last = record { place = q; name = name_at t q }
 
     pub names_more : length mid ≡ length old → DeclaresNames t p old mid a size s m → (m.count < length mid → DeclaresName t mid new q size m r)
         → DeclaresNames t p old new i size s r
     names_more same f g k ty b v z l =
-        let h : s.count + (length (names_at t p a) + 1) ≤ length old = simp length-append at (rw (names_are t p i a q some e w) at l) in
+        let h : s.count + (length (names_at t p a) + 1) ≤ length old = simp length-append at (rw (names_are t p i q some w) at l) in
         let first = f k ty b v z (omega arith) in
         let c : m.count ≡ s.count + length (names_at t p a) = first.counted ∙ ap (λ n. s.count + n) (declare_length k ty b v (names_at t p a)) in
         let room : m.count < length mid = omega arith in
-        rw (names_are t p i a q some e w, declare_append k ty b v (names_at t p a) (last ∷ []), declare_one k ty b v last)
+        rw (names_are t p i q some w, declare_append k ty b v (names_at t p a) (last ∷ []), declare_one k ty b v last)
         (declares_then t old mid new s m r (declare k ty b v (names_at t p a)) _ first
         (declares_one t mid new q size m r _ room refl refl z (g room)))
 
   -- the declarations before and one more
-  module _ (old mid new : List ℕ) (d a j i size : ℕ) (s m r : Seen) (some : 0 < d) (e : a ≡ child_of p d 1) (f : j ≡ child_of p d 2)
-      (g : i ≡ child_of p j 1) (z : size ≡ size_of (bounds_in p j)) where
-    pub declarations_more : length mid ≡ length old → DeclaresAll t p old mid a s m → DeclaresNames t p mid new i size m r → DeclaresAll t p old new d s r
+  module _ (old mid new : List ℕ) (d size : ℕ) (s m r : Seen) (some : 0 < d) (z : size ≡ size_of (bounds_in p (child_of p d 2))) where
+    abbrev earlier : ℕ
+    earlier = child_of p d 1
+
+    abbrev j : ℕ
+    j = child_of p d 2
+
+    abbrev i : ℕ
+    i = child_of p j 1
+
+    pub declarations_more : length mid ≡ length old → DeclaresAll t p old mid earlier s m → DeclaresNames t p mid new i size m r → DeclaresAll t p old new d s r
     declarations_more same before now l =
         let own = declare (section_at p j) (type_at p j) (bounds_in p j) (initial_in p j) (names_at t p i) in
         let n : length own ≡ length (names_at t p i) = declare_length (section_at p j) (type_at p j) (bounds_in p j) (initial_in p j) (names_at t p i) in
-        let all : declared_at t p d ≡ declared_at t p a ++ own = declared_are t p d a j i some e f g in
-        let h : s.count + (length (declared_at t p a) + length own) ≤ length old = simp length-append at (rw all at l) in
+        let all : declared_at t p d ≡ declared_at t p earlier ++ own = declared_are t p d some in
+        let h : s.count + (length (declared_at t p earlier) + length own) ≤ length old = simp length-append at (rw all at l) in
         let first = before (omega arith) in
         rw all
-        (declares_then t old mid new s m r (declared_at t p a) own first
+        (declares_then t old mid new s m r (declared_at t p earlier) own first
         (now (section_at p j) (type_at p j) (bounds_in p j) (initial_in p j) z (omega (arith, first.counted))))

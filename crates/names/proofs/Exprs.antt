@@ -1,152 +1,99 @@
 -- The faults of an expression's node, from those of its children.
-use mathlib.Core.Path.{◌≡◌, refl, ap, ◌∙◌, sym}
-use mathlib.Core.Bool.{cond}
-use mathlib.Core.Option.{none, some}
-use mathlib.Core.List.{List, [], ◌++◌}
-use Prim.Native.Nat.{ℕ, zero, suc, ◌+◌, ◌-◌, ◌≤◌, ◌<◌}
-use native.Mathlib.Omega.{arith}
-use borrow.Author.Tests.{ne_eqb}
-use lib.ListN.{get_or, take, drop, get_or-eq_default}
-use lib.Seq.{get_or-take, get_or-drop}
-use Rattle.paper.specs.Source.{Expr}
-use Rattle.paper.specs.Names.{at, named, Variable, unknown, assigned}
-use Rattle.tree.specs.Nodes.{word_of, kind_of, child_of}
-use Rattle.tree.specs.Trees.{ExprForm, binary_form, operators, expr_forms, expr_at, name_at, place_at}
-use Rattle.tree.proofs.Decodes.{All, none as end, ◌&◌, each, all_map}
-use Rattle.tree.proofs.Frames.{nil_form, expr_form, expr_nil}
-use Rattle.tree.proofs.Forms.{binary_form_lem}
-use Rattle.variables.specs.Table.{variables_in}
-use Rattle.names.specs.Walks.{unknown_name, unknown_at, fixed_name, target_at}
+use mathlib.Core.Path.{◌≡◌, refl, ap}
+use mathlib.Core.List.{List, ◌++◌}
+use Prim.Native.Nat.{ℕ}
+use Rattle.std.specs.Prelude.{Option}
+use Rattle.std.proofs.Common.{◌⊎◌, inl, inr}
+use Rattle.paper.specs.declared.Ty.{Ty}
+use Rattle.paper.specs.declared.Op.{Op}
+use Rattle.paper.specs.Names.{at, Variable, unknown, assigned}
+use Rattle.tree.specs.Nodes.{child_of}
+use Rattle.tree.specs.Trees.{place_at}
+use Rattle.tree.specs.Kinds.{expression_of, IsExpression}
+use Rattle.tree.specs.declared.kinds.Expression.{Expression}
+use Rattle.tree.specs.declared.kinds.Expression.TheVariants.{Nothing, Number, Truth, Variable as Name, Element, Minus, Complement, Brackets, Conversion, Binary}
+use Rattle.variables.specs.Table.{names_to}
+use Rattle.names.specs.Walks.{after, unknown_name, unknown_at, fixed_name, target_at}
+use Rattle.names.proofs.After.{stays}
 
--- ---- forms
+module _ (vs : List Variable) (t p : List ℕ) (i : ℕ) where
+  -- by those of what the node is
+  unknown_by : (e : Expression) → IsExpression p i e → unknown_at vs t p i ≡ unknown vs (expression_of p i t e)
+  unknown_by e v = ap (unknown vs) (v.tree t)
 
--- with no name of its own
-abbrev Unnamed : ExprForm → Type 0
-Unnamed f = (t p : List ℕ) (i : ℕ) (x y : Expr) → named (f t p i x y) ≡ none
-
-low_unnamed : All Unnamed (take 5 expr_forms)
-unfolding expr_forms
-low_unnamed =
-    (λ t p i x y. refl) & (λ t p i x y. refl) & (λ t p i x y. refl) & (λ t p i x y. refl) & (λ t p i x y. refl) & end
-
-high_unnamed : All Unnamed (drop 7 expr_forms)
-unfolding expr_forms
-high_unnamed =
-    (λ t p i x y. refl)
-    & (λ t p i x y. refl)
-    & (λ t p i x y. refl)
-    & (λ t p i x y. refl)
-    & all_map Unnamed binary_form (λ o t p i x y. refl) operators
-
-nil_unnamed : Unnamed nil_form
-nil_unnamed t p i x y = refl
-
-module _ (vs : List Variable) where
-  -- with neither a name nor a part
-  abbrev Leaf : ExprForm → Type 0
-  Leaf f = (t p : List ℕ) (i : ℕ) (x y : Expr) → unknown vs (f t p i x y) ≡ []
-
-  leaves : All Leaf (take 5 expr_forms)
-  unfolding expr_forms unknown
-  leaves =
-      (λ t p i x y. refl) & (λ t p i x y. refl) & (λ t p i x y. refl) & (λ t p i x y. refl) & (λ t p i x y. refl) & end
-
-  nil_leaf : Leaf nil_form
+  -- with neither a name nor an operand
+  pub leaf_unknown : (best : Option ℕ) (e : Expression) → IsExpression p i e → (e ≡ Name → ⊥) → (e ≡ Element → ⊥) → (e ≡ Minus → ⊥)
+      → (e ≡ Complement → ⊥) → (e ≡ Brackets → ⊥) → ((u v : Ty) → e ≡ Conversion u v → ⊥) → ((o : Op) → e ≡ Binary o → ⊥)
+      → best ≡ after best (unknown_at vs t p i)
   unfolding unknown
-  nil_leaf t p i x y = refl
+  leaf_unknown best Nothing v l f m n b c o = stays best _ (unknown_by Nothing v)
+  leaf_unknown best Number v l f m n b c o = stays best _ (unknown_by Number v)
+  leaf_unknown best (Truth x) v l f m n b c o = stays best _ (unknown_by (Truth x) v)
+  leaf_unknown best Name v l f m n b c o = absurd (l refl)
+  leaf_unknown best Element v l f m n b c o = absurd (f refl)
+  leaf_unknown best Minus v l f m n b c o = absurd (m refl)
+  leaf_unknown best Complement v l f m n b c o = absurd (n refl)
+  leaf_unknown best Brackets v l f m n b c o = absurd (b refl)
+  leaf_unknown best (Conversion x y) v l f m n b c o = absurd (c x y refl)
+  leaf_unknown best (Binary x) v l f m n b c o = absurd (o x refl)
 
-  -- with the names of its part alone
-  abbrev Passes : ExprForm → Type 0
-  Passes f = (t p : List ℕ) (i : ℕ) (x y : Expr) → unknown vs (f t p i x y) ≡ unknown vs x
-
-  passes : (v : ℕ) → v < 4 → Passes (get_or (drop 7 expr_forms) v nil_form)
-  unfolding expr_forms unknown
-  passes zero l t p i x y = refl
-  passes (suc zero) l t p i x y = refl
-  passes (suc (suc zero)) l t p i x y = refl
-  passes (suc (suc (suc zero))) l t p i x y = refl
-  passes (suc (suc (suc (suc v)))) l t p i x y = absurd (omega arith)
-
--- ---- nodes
-
-module _ (t p tab : List ℕ) where
-  abbrev vs : List Variable
-  vs = variables_in t p tab
-
-  pub nil_unknown : unknown_at t p tab 0 ≡ []
+  pub variable_unknown : IsExpression p i Name → unknown_at vs t p i ≡ unknown_name vs t (place_at p i)
   unfolding unknown
-  nil_unknown = ap (unknown vs) (expr_nil t p)
+  variable_unknown v = unknown_by Name v
 
-  module _ (i : ℕ) (some : 0 < i) where
-    abbrev w : ℕ
-    w = word_of p i 0
+  pub element_unknown : IsExpression p i Element → unknown_at vs t p i ≡ unknown_name vs t (place_at p i) ++ unknown_at vs t p (child_of p i 1)
+  unfolding unknown
+  element_unknown v = unknown_by Element v
 
-    pub leaf_unknown : w < 5 → unknown_at t p tab i ≡ []
-    leaf_unknown l =
-        ap (unknown vs) (expr_form t p i w _ some refl (sym (get_or-take 5 expr_forms w nil_form l)))
-        ∙ each (Leaf vs) nil_form (nil_leaf vs) (take 5 expr_forms) (leaves vs) w t p i _ _
+  -- minus, NOT, brackets and conversions have those of their operand
+  pub unary_unknown : (e : Expression) → IsExpression p i e
+      → (e ≡ Minus) ⊎ ((e ≡ Complement) ⊎ ((e ≡ Brackets) ⊎ ((u : Ty) × (v : Ty) × (e ≡ Conversion u v))))
+      → unknown_at vs t p i ≡ unknown_at vs t p (child_of p i 1)
+  unfolding unknown
+  unary_unknown e v h =
+      elim h [
+        | inl q ↦ unknown_by Minus (rw q at v)
+        | inr h ↦
+            elim h [
+              | inl q ↦ unknown_by Complement (rw q at v)
+              | inr h ↦
+                  elim h [
+                    | inl q ↦ unknown_by Brackets (rw q at v)
+                    | inr q ↦ unknown_by (Conversion q.0 q.1) (rw q.2 at v)
+                  ]
+            ]
+      ]
 
-    pub other_unknown : 24 < w → unknown_at t p tab i ≡ []
-    unfolding expr_forms unknown
-    other_unknown l = ap (unknown vs) (expr_form t p i w nil_form some refl (get_or-eq_default expr_forms nil_form l))
-
-    pub variable_unknown : w ≡ 5 → unknown_at t p tab i ≡ unknown_name t p tab (place_at p i)
-    unfolding expr_forms unknown
-    variable_unknown e = ap (unknown vs) (expr_form t p i 5 _ some e refl)
-
-    pub element_unknown : w ≡ 6 → unknown_at t p tab i ≡ unknown_name t p tab (place_at p i) ++ unknown_at t p tab (child_of p i 1)
-    unfolding expr_forms unknown
-    element_unknown e = ap (unknown vs) (expr_form t p i 6 _ some e refl)
-
-    pub unary_unknown : 7 ≤ w → w < 11 → unknown_at t p tab i ≡ unknown_at t p tab (child_of p i 1)
-    unary_unknown l m =
-        let v : w ≡ 7 + (w - 7) = omega arith in
-        ap (unknown vs) (expr_form t p i _ _ some v (sym (get_or-drop 7 expr_forms (w - 7) nil_form)))
-        ∙ passes vs (w - 7) (omega arith) t p i _ _
-
-    pub binary_unknown : 11 ≤ w → w ≤ 24 → unknown_at t p tab i ≡ unknown_at t p tab (child_of p i 1) ++ unknown_at t p tab (child_of p i 2)
-    unfolding unknown
-    binary_unknown l m =
-        let o : w ≡ 11 + (w - 11) = omega arith in
-        ap (unknown vs) (expr_form t p i _ _ some o (binary_form_lem (w - 11) (omega arith)))
+  pub binary_unknown : (o : Op) → IsExpression p i (Binary o)
+      → unknown_at vs t p i ≡ unknown_at vs t p (child_of p i 1) ++ unknown_at vs t p (child_of p i 2)
+  unfolding unknown
+  binary_unknown o v = unknown_by (Binary o) v
 
   -- ---- targets
 
-  kind_node : (i : ℕ) → kind_of p (suc i) ≡ word_of p (suc i) 0
-  kind_node i = ap (λ b. cond b 0 (word_of p (suc i) 0)) (ne_eqb (suc i) 0 (omega arith))
-
   module _ (ls : List ℕ) (d : ℕ) where
-    unnamed_target : (i : ℕ) → named (expr_at t p i) ≡ none → target_at t p tab ls d i ≡ []
+    target_by : (e : Expression) → IsExpression p i e → target_at vs t p ls d i ≡ assigned vs (names_to t ls d) (expression_of p i t e)
+    target_by e v = ap (assigned vs (names_to t ls d)) (v.tree t)
+
+    pub named_target : (e : Expression) → IsExpression p i e → (e ≡ Name) ⊎ (e ≡ Element)
+        → target_at vs t p ls d i ≡ at (place_at p i) (fixed_name vs t ls d (place_at p i))
     unfolding assigned
-    unnamed_target i e = rw (e, assigned)
+    named_target e v h =
+        elim h [
+          | inl q ↦ target_by Name (rw q at v)
+          | inr q ↦ target_by Element (rw q at v)
+        ]
 
-    named_target : (i q : ℕ) → named (expr_at t p i) ≡ some (record { place = q; name = name_at t q })
-        → target_at t p tab ls d i ≡ at q (fixed_name t p tab ls d q)
+    pub no_target : (best : Option ℕ) (e : Expression) → IsExpression p i e → (e ≡ Name → ⊥) → (e ≡ Element → ⊥)
+        → best ≡ after best (target_at vs t p ls d i)
     unfolding assigned
-    named_target i q e = rw (e, assigned)
-
-    pub low_target : (i : ℕ) → kind_of p i < 5 → target_at t p tab ls d i ≡ []
-    low_target zero l = unnamed_target 0 (ap named (expr_nil t p))
-    low_target (suc i) l =
-        unnamed_target (suc i)
-        (ap named (expr_form t p (suc i) _ _ (omega arith) refl (sym (get_or-take 5 expr_forms (word_of p (suc i) 0) nil_form (rw (kind_node i) at l))))
-        ∙ each Unnamed nil_form nil_unnamed (take 5 expr_forms) low_unnamed (word_of p (suc i) 0) t p (suc i) _ _)
-
-    pub high_target : (i : ℕ) → 6 < kind_of p i → target_at t p tab ls d i ≡ []
-    high_target zero l = unnamed_target 0 (ap named (expr_nil t p))
-    high_target (suc i) l =
-        let k : word_of p (suc i) 0 ≡ 7 + (word_of p (suc i) 0 - 7) = omega (arith, kind_node i) in
-        unnamed_target (suc i)
-        (ap named (expr_form t p (suc i) _ _ (omega arith) k (sym (get_or-drop 7 expr_forms (word_of p (suc i) 0 - 7) nil_form)))
-        ∙ each Unnamed nil_form nil_unnamed (drop 7 expr_forms) high_unnamed (word_of p (suc i) 0 - 7) t p (suc i) _ _)
-
-    pub name_target : (i : ℕ) → 5 ≤ kind_of p i → kind_of p i ≤ 6 → target_at t p tab ls d i ≡ at (place_at p i) (fixed_name t p tab ls d (place_at p i))
-    unfolding expr_forms
-    name_target zero l m = absurd (omega arith)
-    name_target (suc i) l m = named_target (suc i) (place_at p (suc i)) (go (word_of p (suc i) 0 - 5) (omega (arith, kind_node i)) (omega (arith, kind_node i)))
-      where
-        go : (v : ℕ) → word_of p (suc i) 0 ≡ 5 + v → v < 2
-            → named (expr_at t p (suc i)) ≡ some (record { place = place_at p (suc i); name = name_at t (place_at p (suc i)) })
-        go zero e s = ap named (expr_form t p (suc i) 5 _ (omega arith) e refl)
-        go (suc zero) e s = ap named (expr_form t p (suc i) 6 _ (omega arith) e refl)
-        go (suc (suc v)) e s = absurd (omega arith)
+    no_target best Nothing v n l = stays best _ (target_by Nothing v)
+    no_target best Number v n l = stays best _ (target_by Number v)
+    no_target best (Truth x) v n l = stays best _ (target_by (Truth x) v)
+    no_target best Name v n l = absurd (n refl)
+    no_target best Element v n l = absurd (l refl)
+    no_target best Minus v n l = stays best _ (target_by Minus v)
+    no_target best Complement v n l = stays best _ (target_by Complement v)
+    no_target best Brackets v n l = stays best _ (target_by Brackets v)
+    no_target best (Conversion x y) v n l = stays best _ (target_by (Conversion x y) v)
+    no_target best (Binary x) v n l = stays best _ (target_by (Binary x) v)

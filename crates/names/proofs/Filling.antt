@@ -5,15 +5,17 @@ use mathlib.Core.List.{List, [], ◌∷◌, ◌++◌, append_assoc, append-nil}
 use Prim.Native.Nat.{ℕ, zero, suc, ◌+◌, ◌-◌, ◌*◌, ◌/◌, ◌%◌, ◌≤◌, ◌<◌}
 use native.Mathlib.Numerals.{add-one}
 use native.Mathlib.Omega.{arith}
-use borrow.Author.Tests.{ltb-true, ltb-false, eqb-true, eqb-false, eq-eqb, ne_eqb, le-leb}
+use denote.Enum.Bare.{sameb}
+use borrow.Author.Tests.{ltb-true, ltb-false, eqb-true, eqb-false, le-leb}
 use lib.Dec.{eqb, ltb}
 use lib.ListN.{length, get_or, take, length-append, length-take}
 use lib.Seq.{take_all, take-append-le, take-take}
+use Rattle.paper.specs.contracts.Kind.{the_type}
 use Rattle.paper.specs.declared.Kind.{Kind}
 use Rattle.paper.specs.declared.Kind.TheVariants.{Input, Output, Other}
 use Rattle.paper.specs.Source.{Name, Declared}
 use Rattle.paper.specs.Reading.{declare}
-use Rattle.paper.specs.Names.{kind_tag, size_of, of_kind, printed, placed}
+use Rattle.paper.specs.Names.{same_kind, size_of, of_kind, printed, placed}
 use Rattle.tree.specs.Nodes.{word_of, child_of, written}
 use Rattle.tree.specs.Trees.{name_at, place_at, names_at, declared_at}
 use Rattle.tree.proofs.Frames.{names_nil, declared_nil}
@@ -24,7 +26,7 @@ use Rattle.names.specs.declared.table.Filled.{Filled}
 use Rattle.names.specs.Walks.{Kept}
 use Rattle.names.specs.Declares.{cells_with}
 use Rattle.names.specs.Fills.{Adds, Celled, Fills, FillsNames, FillsKind, FillsAll, firsts_of}
-use Rattle.names.proofs.Nodes.{declare_append, declare_none, declare_one, kind_append, kind_same, kind_other, names_are, declared_are}
+use Rattle.names.proofs.Nodes.{declare_append, declare_none, declare_one, same_kinds, kind_append, kind_same, kind_other, names_are, declared_are}
 use Rattle.names.proofs.Declaring.{cells_append}
 
 -- ---- a list cut to a length
@@ -143,6 +145,13 @@ module _ (t p old : List ℕ) (n place j cells : ℕ) (l : n < length old / 4) (
 
 -- ---- steps
 
+pub adds_most : (t old new : List ℕ) (place j size : ℕ) (f r : Filled) → f.count ≤ length old / 4 → Adds t old new place j size f r → r.count ≤ length old / 4
+adds_most t old new place j size f r l a = go (ltb f.count (length old / 4)) refl
+  where
+    go : (b : Bool) → ltb f.count (length old / 4) ≡ b → r.count ≤ length old / 4
+    go true e = let room : f.count < length old / 4 = ltb-true _ _ e in omega (arith, a.counted room)
+    go false e = rw ((a.full (ltb-false _ _ e)).1) l
+
 module _ (t p : List ℕ) where
   pub fills_none : (tab : List ℕ) (f : Filled) (more : List Declared) → f.count ≤ length tab / 4 → more ≡ [] → Fills t p tab tab f f more
   fills_none tab f more l none =
@@ -209,69 +218,57 @@ module _ (t p : List ℕ) where
         celled = x.celled;
       }
 
-  pub fills_most : (old new : List ℕ) (f r : Filled) (es : List Declared) → Fills t p old new f r es → r.count ≤ length old / 4
-  fills_most old new f r es x =
-      let n = ap length x.listed ∙ length-take (length old / 4) (entries t p old f.count ++ es) in
-      omega (arith, entries_length t p new r.count, n)
-
   -- ---- nodes
 
-  -- the names before and one more, of the declaration j
-  pub fills_names : (old mid new : List ℕ) (i a q j size : ℕ) (f m r : Filled) → 0 < i → a ≡ child_of p i 1 → q ≡ place_at p i
-      → 4 * j + 4 ≤ length p → size ≡ size_of (bounds_in p j) → length mid ≡ length old → m.count ≤ length old / 4
-      → FillsNames t p old mid a j f m → Adds t mid new q j size m r → FillsNames t p old new i j f r
-  fills_names old mid new i a q j size f m r some e w fits z same l x y =
-      let k = section_at p j in
-      let ty = type_at p j in
-      let b = bounds_in p j in
-      let v = initial_in p j in
-      fills_then old mid new f m r _ _ _ same
-      (ap (declare k ty b v) (names_are t p i a q some e w) ∙ declare_append k ty b v (names_at t p a) (record { place = q; name = name_at t q } ∷ []))
-      x
-      (fills_one mid new q j size m r _ (rw same l) fits z (declare_one k ty b v (record { place = q; name = name_at t q })) y)
-
-  pub fills_no_names : (tab : List ℕ) (j : ℕ) (f : Filled) → f.count ≤ length tab / 4 → FillsNames t p tab tab 0 j f f
-  fills_no_names tab j f l =
-      fills_none tab f _ l
-      (ap (declare (section_at p j) (type_at p j) (bounds_in p j) (initial_in p j)) (names_nil t p) ∙ declare_none (section_at p j) (type_at p j) (bounds_in p j) (initial_in p j))
-
-  pub fills_no_kind : (tab : List ℕ) (n : ℕ) (f : Filled) → f.count ≤ length tab / 4 → FillsKind t p tab tab 0 n f f
+  pub fills_no_kind : (tab : List ℕ) (k : Kind) (f : Filled) → f.count ≤ length tab / 4 → FillsKind t p tab tab 0 k f f
   unfolding of_kind
-  fills_no_kind tab n f l k e = fills_none tab f _ l (ap (of_kind k) (declared_nil t p))
+  fills_no_kind tab k f l = fills_none tab f _ l (ap (of_kind k) (declared_nil t p))
 
-  -- the declarations before and one more, of the kind with the number n
-  module _ (old mid : List ℕ) (d a j i n : ℕ) (f m : Filled) (some : 0 < d) (e : a ≡ child_of p d 1) (g : j ≡ child_of p d 2)
-      (h : i ≡ child_of p j 1) where
+  -- the declarations before and one more, of the kind k
+  module _ (old mid : List ℕ) (d : ℕ) (k s : Kind) (is : Bool) (f m : Filled) (some : 0 < d) (e : s ≡ section_at p (child_of p d 2))
+      (h : is ≡ sameb the_type s k) where
+    abbrev a : ℕ
+    a = child_of p d 1
+
+    abbrev j : ℕ
+    j = child_of p d 2
+
+    abbrev i : ℕ
+    i = child_of p j 1
+
     abbrev own : List Declared
     own = declare (section_at p j) (type_at p j) (bounds_in p j) (initial_in p j) (names_at t p i)
 
-    kinds_are : (k : Kind) → of_kind k (declared_at t p d) ≡ of_kind k (declared_at t p a) ++ of_kind k own
-    kinds_are k = ap (of_kind k) (declared_are t p d a j i some e g h) ∙ kind_append k (declared_at t p a) own
+    kinds_are : of_kind k (declared_at t p d) ≡ of_kind k (declared_at t p a) ++ of_kind k own
+    kinds_are = ap (of_kind k) (declared_are t p d some) ∙ kind_append k (declared_at t p a) own
 
-    pub fills_kind : (new : List ℕ) (r : Filled) → length mid ≡ length old → kind_tag (section_at p j) ≡ n → FillsKind t p old mid a n f m → FillsNames t p mid new i j m r
-        → FillsKind t p old new d n f r
-    fills_kind new r same s x y k q =
+    same_section : same_kind k (section_at p j) ≡ is
+    same_section = ap (same_kind k) (sym e) ∙ sym (h ∙ same_kinds s k)
+
+    pub fills_kind : (new : List ℕ) (size : ℕ) (r : Filled) → length mid ≡ length old → is ≡ true → 4 * j + 4 ≤ length p
+        → size ≡ size_of (bounds_in p j) → FillsKind t p old mid a k f m → FillsNames t p mid new i j size m r → FillsKind t p old new d k f r
+    fills_kind new size r same s fits z x y =
         fills_then old mid new f m r _ _ _ same
-        (kinds_are k ∙ ap (λ ds. of_kind k (declared_at t p a) ++ ds)
-        (kind_same k (section_at p j) (type_at p j) (bounds_in p j) (initial_in p j) (names_at t p i) (eq-eqb _ _ (sym q ∙ sym s))))
-        (x k q) y
+        (kinds_are ∙ ap (λ ds. of_kind k (declared_at t p a) ++ ds)
+        (kind_same k (section_at p j) (type_at p j) (bounds_in p j) (initial_in p j) (names_at t p i) (same_section ∙ s)))
+        x (y p fits z)
 
-    pub fills_other : (kind_tag (section_at p j) ≡ n → ⊥) → FillsKind t p old mid a n f m → FillsKind t p old mid d n f m
-    fills_other s x k q =
+    pub fills_other : is ≡ false → FillsKind t p old mid a k f m → FillsKind t p old mid d k f m
+    fills_other s x =
         fills_same old mid f m _ _
-        (kinds_are k ∙ ap (λ ds. of_kind k (declared_at t p a) ++ ds)
-        (kind_other k (section_at p j) (type_at p j) (bounds_in p j) (initial_in p j) (names_at t p i) (ne_eqb _ _ (λ z. s (sym z ∙ sym q))))
+        (kinds_are ∙ ap (λ ds. of_kind k (declared_at t p a) ++ ds)
+        (kind_other k (section_at p j) (type_at p j) (bounds_in p j) (initial_in p j) (names_at t p i) (same_section ∙ s))
         ∙ append-nil (of_kind k (declared_at t p a)))
-        (x k q)
+        x
 
   -- all three kinds, from an empty table
   pub fills_all : (old one two new : List ℕ) (d : ℕ) (a b r : Filled) → length one ≡ length old → length two ≡ length one
-      → FillsKind t p old one d 0 (record { count = 0; cells = 0 }) a → FillsKind t p one two d 1 a b → FillsKind t p two new d 2 b r → FillsAll t p old new d r
+      → FillsKind t p old one d Input (record { count = 0; cells = 0 }) a → FillsKind t p one two d Output a b → FillsKind t p two new d Other b r → FillsAll t p old new d r
   unfolding printed entries cells_with
   fills_all old one two new d a b r same like x y z =
       let none : Filled = record { count = 0; cells = 0 } in
-      let two-kinds = fills_then old one two none a b _ _ (of_kind Input (declared_at t p d) ++ of_kind Output (declared_at t p d)) same refl (x Input refl) (y Output refl) in
-      let all = fills_then old two new none b r _ _ (printed (declared_at t p d)) (like ∙ same) refl two-kinds (z Other refl) in
+      let two-kinds = fills_then old one two none a b _ _ (of_kind Input (declared_at t p d) ++ of_kind Output (declared_at t p d)) same refl x y in
+      let all = fills_then old two new none b r _ _ (printed (declared_at t p d)) (like ∙ same) refl two-kinds z in
       let start : Celled t p old none = record { firsts = λ k l. absurd (omega arith); next = refl } in
       record {
         listed = all.listed;
@@ -285,3 +282,24 @@ module _ (t p : List ℕ) where
             ∙ ap (λ c. c % 65536) (sym (first_at 0 ds k (omega (arith, n))));
         cells = (all.celled start).next;
       }
+
+-- ---- names
+
+-- the names before and one more, of the declaration j
+pub fills_names : (t o old mid new : List ℕ) (i q j size : ℕ) (f m r : Filled) → 0 < i → q ≡ place_at o i → length mid ≡ length old
+    → m.count ≤ length old / 4 → FillsNames t o old mid (child_of o i 1) j size f m → Adds t mid new q j size m r → FillsNames t o old new i j size f r
+fills_names t o old mid new i q j size f m r some w same l x y p fits z =
+    let k = section_at p j in
+    let ty = type_at p j in
+    let b = bounds_in p j in
+    let v = initial_in p j in
+    fills_then t p old mid new f m r _ _ _ same
+    (ap (declare k ty b v) (names_are t o i q some w)
+    ∙ declare_append k ty b v (names_at t o (child_of o i 1)) (record { place = q; name = name_at t q } ∷ []))
+    (x p fits z)
+    (fills_one t p mid new q j size m r _ (rw same l) fits z (declare_one k ty b v (record { place = q; name = name_at t q })) y)
+
+pub fills_no_names : (t o tab : List ℕ) (j size : ℕ) (f : Filled) → f.count ≤ length tab / 4 → FillsNames t o tab tab 0 j size f f
+fills_no_names t o tab j size f l p fits z =
+    fills_none t p tab f _ l
+    (ap (declare (section_at p j) (type_at p j) (bounds_in p j) (initial_in p j)) (names_nil t o) ∙ declare_none (section_at p j) (type_at p j) (bounds_in p j) (initial_in p j))

@@ -2,15 +2,19 @@
 use mathlib.Core.Path.{◌≡◌, refl, sym, ap, ◌∙◌}
 use mathlib.Core.List.{List, [], ◌∷◌, ◌++◌, append_assoc, append-nil}
 use Prim.Native.Nat.{ℕ, zero, suc, ◌+◌, ◌-◌, ◌≤◌, ◌<◌}
-use native.Mathlib.Omega.{arith}
-use lib.ListN.{length, get_or, take, set, get_or-eq_default}
+use lib.ListN.{length, get_or, take, set}
 use Rattle.paper.specs.Source.{Name, Stmts, done}
 use Rattle.paper.specs.Names.{Variable, statement_faults}
 use Rattle.tree.specs.Nodes.{word_of, child_of}
-use Rattle.tree.specs.Trees.{name_at, place_at, FrontForm, front_forms, front_from, front_at, arms_forms, arms_at}
+use Rattle.tree.specs.Trees.{name_at, place_at, FrontForm, front_forms, front_from, front_at, arms_at}
+use Rattle.tree.specs.Kinds.{statement_of, arms_of, IsStatement, IsArms}
+use Rattle.tree.specs.declared.kinds.Statement.{Statement}
+use Rattle.tree.specs.declared.kinds.Statement.TheVariants as F
+use Rattle.tree.specs.declared.kinds.Arms.{Arms}
+use Rattle.tree.specs.declared.kinds.Arms.TheVariants as A
 use Rattle.tree.proofs.Decodes.{All, none, ◌&◌, each}
-use Rattle.tree.proofs.Frames.{skip, no_arms, front_form, front_nil, arms_form, arms_nil, arms_below, child_most}
-use Rattle.variables.specs.Table.{variables_in, names_to}
+use Rattle.tree.proofs.Frames.{skip}
+use Rattle.variables.specs.Table.{names_to}
 use Rattle.names.specs.Walks.{unknown_at, head_at, assignment_at, statements_at, branches_at, repeat_at, arm_faults_at, Kept}
 use Rattle.names.proofs.Places.{names_kept, names_take, names_set}
 
@@ -71,113 +75,85 @@ module _ (vs : List Variable) where
 
 -- ---- after a change of the places behind the first d
 
-module _ (t p tab old new : List ℕ) (d i : ℕ) (h : Kept d old new) where
-  pub statements_kept : statements_at t p tab new d i ≡ statements_at t p tab old d i
-  statements_kept = ap (statement_faults (variables_in t p tab) (front_at t p i done)) (names_kept t d old new h)
+module _ (vs : List Variable) (t p old new : List ℕ) (d i : ℕ) (h : Kept d old new) where
+  pub statements_kept : statements_at vs t p new d i ≡ statements_at vs t p old d i
+  statements_kept = ap (statement_faults vs (front_at t p i done)) (names_kept t d old new h)
 
-  pub arms_kept : arm_faults_at t p tab new d i ≡ arm_faults_at t p tab old d i
-  arms_kept = ap (statement_faults (variables_in t p tab) (arms_at t p i)) (names_kept t d old new h)
+  pub arms_kept : arm_faults_at vs t p new d i ≡ arm_faults_at vs t p old d i
+  arms_kept = ap (statement_faults vs (arms_at t p i)) (names_kept t d old new h)
 
 -- ---- nodes
 
-module _ (t p tab ls : List ℕ) (d : ℕ) where
-  abbrev vs : List Variable
-  vs = variables_in t p tab
-
+module _ (vs : List Variable) (t p ls : List ℕ) (d i : ℕ) where
   abbrev names : List Name
   names = names_to t ls d
 
-  abbrev faults : Stmts → List ℕ
-  faults s = statement_faults vs s names
+  abbrev a : ℕ
+  a = child_of p i 1
 
-  pub nil_statements : statements_at t p tab ls d 0 ≡ []
+  abbrev b : ℕ
+  b = child_of p i 2
+
+  -- by those of what the node is
+  statements_by : (s : Statement) → IsStatement p i s → statements_at vs t p ls d i ≡ statement_faults vs (statement_of p i t done s) names
+  statements_by s v = ap (λ k. statement_faults vs k names) (v.list t done)
+
+  arms_by : (x : Arms) → IsArms p i x → arm_faults_at vs t p ls d i ≡ statement_faults vs (arms_of p i t x) names
+  arms_by x v = ap (λ k. statement_faults vs k names) (v.list t)
+
+  pub no_statements : IsStatement p i F.Nothing → statements_at vs t p ls d i ≡ []
   unfolding statement_faults
-  nil_statements = ap faults (front_nil t p done)
+  no_statements v = statements_by F.Nothing v
 
-  pub nil_arms : arm_faults_at t p tab ls d 0 ≡ []
+  pub assignment_faults : IsStatement p i F.Assignment → statements_at vs t p ls d i ≡ assignment_at vs t p ls d a b
   unfolding statement_faults
-  nil_arms = ap faults (arms_nil t p)
+  assignment_faults v = statements_by F.Assignment v ∙ simp append-nil
 
-  -- a statement, with the children a and b
-  module _ (i a b : ℕ) (some : 0 < i) (e : a ≡ child_of p i 1) (f : b ≡ child_of p i 2) where
-    pub assignment_faults : word_of p i 0 < 41 → statements_at t p tab ls d i ≡ assignment_at t p tab ls d a b
-    unfolding front_forms statement_faults
-    assignment_faults l =
-        let z : word_of p i 0 - 40 ≡ 0 = omega arith in
-        rw (e, f)
-        (ap faults (front_form t p i _ _ done some refl (ap (λ v. get_or front_forms v skip) z)) ∙ simp append-nil)
+  pub choice_faults : IsStatement p i F.Choice → statements_at vs t p ls d i ≡ unknown_at vs t p a ++ branches_at vs t p ls d b
+  unfolding statement_faults
+  choice_faults v = statements_by F.Choice v ∙ simp append-nil (append_assoc (unknown_at vs t p a) _ _)
 
-    pub choice_faults : word_of p i 0 ≡ 41 → statements_at t p tab ls d i ≡ unknown_at t p tab a ++ branches_at t p tab ls d b
-    unfolding front_forms statement_faults
-    choice_faults w =
-        let yes = statements_at t p tab ls d (child_of p (child_of p i 2) 1) in
-        let no = statements_at t p tab ls d (child_of p (child_of p i 2) 2) in
-        let c = unknown_at t p tab (child_of p i 1) in
-        rw (e, f)
-        (ap faults (front_form t p i 41 _ done some w refl) ∙ append-nil (c ++ yes ++ no) ∙ append_assoc c yes no)
+  pub select_faults : IsStatement p i F.Selection → statements_at vs t p ls d i ≡ unknown_at vs t p a ++ arm_faults_at vs t p ls d b
+  unfolding statement_faults
+  select_faults v = statements_by F.Selection v ∙ simp append-nil
 
-    pub select_faults : word_of p i 0 ≡ 42 → statements_at t p tab ls d i ≡ unknown_at t p tab a ++ arm_faults_at t p tab ls d b
-    unfolding front_forms statement_faults
-    select_faults w =
-        rw (e, f)
-        (ap faults (front_form t p i 42 _ done some w refl)
-        ∙ simp append-nil (ap (λ s. unknown_at t p tab (child_of p i 1) ++ faults s) (arms_below t p i (child_of p i 2) (child_most p i 2))))
+  pub repeat_faults : IsStatement p i F.Loop → statements_at vs t p ls d i ≡ repeat_at vs t p ls d a b
+  unfolding statement_faults
+  repeat_faults v = statements_by F.Loop v ∙ simp append-nil
 
-    pub repeat_faults : word_of p i 0 ≡ 43 → statements_at t p tab ls d i ≡ repeat_at t p tab ls d a b
-    unfolding front_forms statement_faults
-    repeat_faults w = rw (e, f) (ap faults (front_form t p i 43 _ done some w refl) ∙ simp append-nil)
+  -- the first part is walked last, with other places behind the first d
+  pub list_faults : (mid : List ℕ) → Kept d ls mid → IsStatement p i F.List
+      → statements_at vs t p ls d i ≡ statements_at vs t p mid d a ++ statements_at vs t p ls d b
+  list_faults mid h v =
+      rw (statements_kept vs t p ls mid d a h) (statements_by F.List v ∙ front_leads vs t p a (front_at t p b done) names)
 
-    -- the first part is walked last, with other places behind the first d
-    pub list_faults : (mid : List ℕ) → Kept d ls mid → word_of p i 0 ≡ 44
-        → statements_at t p tab ls d i ≡ statements_at t p tab mid d a ++ statements_at t p tab ls d b
-    unfolding front_forms
-    list_faults mid h w =
-        rw (statements_kept t p tab ls mid d a h, e, f)
-        (ap faults (front_form t p i 44 _ done some w refl) ∙ front_leads vs t p (child_of p i 1) (front_at t p (child_of p i 2) done) names)
+  -- the arms behind the first are walked with other places behind the first d
+  pub arm_faults_lem : (mid : List ℕ) → Kept d ls mid → IsArms p i A.Arm
+      → arm_faults_at vs t p ls d i ≡ statements_at vs t p ls d b ++ arm_faults_at vs t p mid d (child_of p i 3)
+  unfolding statement_faults
+  arm_faults_lem mid h v = rw (arms_kept vs t p ls mid d (child_of p i 3) h) (arms_by A.Arm v)
 
-  module _ (i : ℕ) (some : 0 < i) where
-    pub other_faults : 44 < word_of p i 0 → statements_at t p tab ls d i ≡ []
-    unfolding front_forms statement_faults
-    other_faults l =
-        ap faults (front_form t p i _ skip done some refl (get_or-eq_default front_forms skip {n = word_of p i 0 - 40} (omega arith)))
+  pub else_faults : IsArms p i A.Otherwise → arm_faults_at vs t p ls d i ≡ statements_at vs t p ls d a
+  else_faults v = arms_by A.Otherwise v
 
-    -- the arms behind the first are walked with other places behind the first d
-    pub arm_faults_lem : (mid : List ℕ) (b c : ℕ) → Kept d ls mid → b ≡ child_of p i 2 → c ≡ child_of p i 3 → word_of p i 0 < 49
-        → arm_faults_at t p tab ls d i ≡ statements_at t p tab ls d b ++ arm_faults_at t p tab mid d c
-    unfolding arms_forms statement_faults
-    arm_faults_lem mid b c h e f l =
-        let z : word_of p i 0 - 48 ≡ 0 = omega arith in
-        rw (arms_kept t p tab ls mid d c h, e, f)
-        (ap faults (arms_form t p i _ _ some refl (ap (λ v. get_or arms_forms v no_arms) z)))
-
-    pub else_faults : (a : ℕ) → a ≡ child_of p i 1 → word_of p i 0 ≡ 49 → arm_faults_at t p tab ls d i ≡ statements_at t p tab ls d a
-    unfolding arms_forms
-    else_faults a e w = rw e (ap faults (arms_form t p i 49 _ some w refl))
-
-    pub no_arm_faults : 49 < word_of p i 0 → arm_faults_at t p tab ls d i ≡ []
-    unfolding arms_forms statement_faults
-    no_arm_faults l =
-        ap faults (arms_form t p i _ no_arms some refl (get_or-eq_default arms_forms no_arms {n = word_of p i 0 - 48} (omega arith)))
-
-  -- the two lists of an IF, the second walked with other places behind the first d
-  pub branches_faults : (mid : List ℕ) (j a b : ℕ) → Kept d ls mid → a ≡ child_of p j 1 → b ≡ child_of p j 2
-      → branches_at t p tab ls d j ≡ statements_at t p tab ls d a ++ statements_at t p tab mid d b
-  branches_faults mid j a b h e f = rw (statements_kept t p tab ls mid d b h, e, f)
+  pub no_arms : IsArms p i A.Nothing → arm_faults_at vs t p ls d i ≡ []
+  unfolding statement_faults
+  no_arms v = arms_by A.Nothing v
 
 -- ---- the parts that are lent the first d places
 
-module _ (t p tab ls : List ℕ) (d : ℕ) (l : d ≤ length ls) where
+module _ (vs : List Variable) (t p ls : List ℕ) (d : ℕ) (l : d ≤ length ls) where
   abbrev part : List ℕ
   part = take d ls
 
-  pub part_head : (h : ℕ) → head_at t p tab part (length part) h ≡ head_at t p tab ls d h
+  pub part_head : (h : ℕ) → head_at vs t p part (length part) h ≡ head_at vs t p ls d h
   part_head h = rw (names_take t d ls l)
 
-  pub part_assignment : (a b : ℕ) → assignment_at t p tab part (length part) a b ≡ assignment_at t p tab ls d a b
+  pub part_assignment : (a b : ℕ) → assignment_at vs t p part (length part) a b ≡ assignment_at vs t p ls d a b
   part_assignment a b = rw (names_take t d ls l)
 
 -- the body of a FOR whose variable stands at q
-pub inner_statements : (t p tab ls : List ℕ) (d b q h : ℕ) → d < length ls → q ≡ place_at p h
-    → statements_at t p tab (set ls d q) (d + 1) b ≡ statement_faults (variables_in t p tab) (front_at t p b done) (name_at t (place_at p h) ∷ names_to t ls d)
-inner_statements t p tab ls d b q h l e =
-    ap (statement_faults (variables_in t p tab) (front_at t p b done)) (names_set t d ls q l ∙ ap (λ q. name_at t q ∷ names_to t ls d) e)
+pub inner_statements : (vs : List Variable) (t p ls : List ℕ) (d b q h : ℕ) → d < length ls → q ≡ place_at p h
+    → statements_at vs t p (set ls d q) (d + 1) b ≡ statement_faults vs (front_at t p b done) (name_at t (place_at p h) ∷ names_to t ls d)
+inner_statements vs t p ls d b q h l e =
+    ap (statement_faults vs (front_at t p b done)) (names_set t d ls q l ∙ ap (λ q. name_at t q ∷ names_to t ls d) e)

@@ -6,6 +6,7 @@ use Prim.Native.Nat.{ℕ, suc, ◌+◌, ◌*◌, ◌/◌, ◌%◌, ◌≤◌}
 use native.Mathlib.Omega.{arith}
 use lib.ListN.{length, take, length-append}
 use lib.Seq.{length-take-le, get_or-take, take_all}
+use Rattle.std.specs.Prelude.{Option, None}
 use Rattle.paper.specs.declared.Kind.{Kind}
 use Rattle.paper.specs.declared.Kind.TheVariants.{Input, Output, Other}
 use Rattle.paper.specs.Source.{Declared, done}
@@ -44,14 +45,17 @@ printed_length ds = simp length-append (kinds_length ds)
 
 -- nothing declared yet
 abbrev none : Seen
-none = record { count = 0; cells = 0; best = 0 }
+none = record { count = 0; cells = 0; best = None }
 
-module _ (t p old new scratch places : List ℕ) (root d b first : ℕ) (f : Filled) (s : Seen) (e : d ≡ child_of p root 1) (g : b ≡ child_of p root 2)
-    (most : f.count ≤ length old / 4) (same : length new ≡ length old) (fills : FillsAll t p old new d f)
-    (declares : DeclaresAll t p scratch places d none s)
-    (body : first ≡ after s.best (statements_at t p (take (4 * f.count) new) places 0 b)) where
+module _ (t p old new scratch places : List ℕ) (root : ℕ) (first : Option ℕ) (f : Filled) (s : Seen)
+    (most : f.count ≤ length old / 4) (same : length new ≡ length old) (fills : FillsAll t p old new (child_of p root 1) f)
+    (declares : DeclaresAll t p scratch places (child_of p root 1) none s)
+    (body : first ≡ after s.best (statements_at (variables_in t p (take (4 * f.count) new)) t p places 0 (child_of p root 2))) where
   abbrev ds : List Declared
-  ds = declared_at t p d
+  ds = declared_at t p (child_of p root 1)
+
+  abbrev b : ℕ
+  b = child_of p root 2
 
   module _ (seen : length ds ≤ length scratch) (room : length ds ≤ length old / 4) where
     all_listed : entries t p new f.count ≡ printed ds
@@ -72,10 +76,9 @@ module _ (t p old new scratch places : List ℕ) (root d b first : ℕ) (f : Fil
     judges : Judges t p new (program_at t p root) (record { first = first; count = f.count; cells = f.cells })
     unfolding program_at variables_of name_faults after names_to
     judges =
-        rw (← e, ← g)
         record {
           first =
-              then 0 s.best first (declaration_faults [] 0 ds) (statement_faults (variables_of ds) (front_at t p b done) []) _
+              then None s.best first (declaration_faults [] 0 ds) (statement_faults (variables_of ds) (front_at t p b done) []) _
               (declares (omega arith)).soonest
               (body ∙ ap (λ vs. after s.best (statement_faults vs (front_at t p b done) [])) in_part)
               refl;
@@ -87,4 +90,4 @@ module _ (t p old new scratch places : List ℕ) (root d b first : ℕ) (f : Fil
 
   pub judged : Judged t p old new (length scratch) root (record { first = first; count = f.count; cells = f.cells })
   unfolding program_at
-  judged = record { most = omega arith; judges = λ l m. judges (rw e l) (rw e m) }
+  judged = record { most = omega arith; judges = λ l m. judges l m }

@@ -1,60 +1,43 @@
 -- What is known of the variable of a name, once it is found.
-use mathlib.Core.Path.{◌≡◌, refl}
-use mathlib.Core.Bool.{true, false, not}
+use mathlib.Core.Path.{◌≡◌}
+use mathlib.Core.Bool.{false}
 use mathlib.Core.List.{List}
-use Prim.Native.Nat.{ℕ, zero, suc, ◌/◌, ◌≤◌, ◌<◌}
-use native.Mathlib.Omega.{arith}
-use borrow.Author.Tests.{le-ltb}
-use lib.Dec.{ltb, eqb}
-use lib.ListN.{length, get_or}
-use Rattle.paper.specs.declared.Ty.TheVariants.{Bool as BOOL}
-use Rattle.paper.specs.declared.Kind.{Kind}
-use Rattle.paper.specs.declared.Kind.TheVariants.{Input, Output, Other}
-use Rattle.paper.specs.Types.{is_integer}
-use Rattle.paper.specs.Names.{kind_tag, same_kind, is_known, is_input, can_loop}
+use Prim.Native.Nat.{ℕ}
+use Rattle.std.specs.Prelude.{Option, None, Some, is_some}
+use Rattle.paper.specs.declared.Kind.TheVariants.{Input}
+use Rattle.paper.specs.Source.{Name}
+use Rattle.paper.specs.Names.{Variable, same_kind, is_known, is_input, can_loop}
 use Rattle.tree.specs.Nodes.{word_of}
-use Rattle.tree.specs.Trees.{name_at, types}
-use Rattle.variables.specs.Table.{node_in, section_at, variables_in, Finds}
+use Rattle.tree.specs.Trees.{name_at}
+use Rattle.variables.specs.Table.{node_in, section_at, variables_in, Found, Missing, Seeks}
 use Rattle.names.specs.Walks.{loopable}
 
-module _ (t p tab : List ℕ) (place r : ℕ) (f : Finds t tab place r) where
-  module _ (l : r < length tab / 4) where
-    pub known_found : not (is_known (variables_in t p tab) (name_at t place)) ≡ false
-    unfolding is_known
-    known_found = rw ((f.found l p).1, is_known)
+module _ (t p tab : List ℕ) (place : ℕ) where
+  abbrev vs : List Variable
+  vs = variables_in t p tab
 
-    pub input_found : is_input (variables_in t p tab) (name_at t place) ≡ same_kind Input (section_at p (node_in p (word_of tab r 1)))
+  abbrev name : Name
+  name = name_at t place
+
+  pub known_seeks : (o : Option ℕ) → Seeks t tab place o → is_some o ≡ is_known vs name
+  unfolding is_known
+  known_seeks None f = rw (f.declared p, is_known)
+  known_seeks (Some r) f = rw ((f.declared p).1, is_known)
+
+  module _ (r : ℕ) (f : Found t tab place r) where
+    pub input_found : same_kind Input (section_at p (node_in p (word_of tab r 1))) ≡ is_input vs name
     unfolding is_input
-    input_found = rw ((f.found l p).1, is_input)
+    input_found = rw ((f.declared p).1, is_input)
 
-    pub loop_found : can_loop (variables_in t p tab) (name_at t place) ≡ loopable p (node_in p (word_of tab r 1))
+    pub loop_found : loopable p (node_in p (word_of tab r 1)) ≡ can_loop vs name
     unfolding can_loop
-    loop_found = rw ((f.found l p).1, can_loop)
+    loop_found = rw ((f.declared p).1, can_loop)
 
-  module _ (l : length tab / 4 ≤ r) where
-    pub known_missing : not (is_known (variables_in t p tab) (name_at t place)) ≡ true
-    unfolding is_known
-    known_missing = rw (f.missing l p, is_known)
-
-    pub input_missing : is_input (variables_in t p tab) (name_at t place) ≡ false
+  module _ (f : Missing t tab place) where
+    pub input_missing : false ≡ is_input vs name
     unfolding is_input
-    input_missing = rw (f.missing l p, is_input)
+    input_missing = rw (f.declared p, is_input)
 
-    pub loop_missing : can_loop (variables_in t p tab) (name_at t place) ≡ false
+    pub loop_missing : false ≡ can_loop vs name
     unfolding can_loop
-    loop_missing = rw (f.missing l p, can_loop)
-
--- ---- sections and types by their numbers
-
-pub input_section : (k : Kind) → eqb (kind_tag k) 0 ≡ same_kind Input k
-input_section Input = refl
-input_section Output = refl
-input_section Other = refl
-
-pub integer_below : (w : ℕ) → (w ≡ 0 → ⊥) → ltb w 5 ≡ is_integer (get_or types w BOOL)
-integer_below zero h = absurd (h refl)
-integer_below (suc zero) h = refl
-integer_below (suc (suc zero)) h = refl
-integer_below (suc (suc (suc zero))) h = refl
-integer_below (suc (suc (suc (suc zero)))) h = refl
-integer_below (suc (suc (suc (suc (suc w))))) h = le-ltb (suc (suc (suc (suc (suc w))))) 5 (omega arith)
+    loop_missing = rw (f.declared p, can_loop)

@@ -1,20 +1,20 @@
 -- What is declared at a node, from what is declared at its children.
-use mathlib.Core.Path.{◌≡◌, refl, sym, ap, ap₂, ◌∙◌}
+use mathlib.Core.Path.{◌≡◌, refl, sym, ap, ◌∙◌}
 use mathlib.Core.Bool.{Bool, true, false, cond}
 use mathlib.Core.List.{List, [], ◌∷◌, ◌++◌}
-use Prim.Native.Nat.{ℕ, suc, ◌≤◌, ◌<◌}
-use native.Mathlib.Omega.{arith}
-use lib.Dec.{ltb}
+use Prim.Native.Nat.{ℕ, suc, ◌<◌}
+use denote.Enum.Bare.{sameb}
 use lib.ListN.{length}
+use Rattle.paper.specs.contracts.Kind.{the_type}
 use Rattle.paper.specs.declared.Ty.{Ty}
 use Rattle.paper.specs.declared.Kind.{Kind}
+use Rattle.paper.specs.declared.Kind.TheVariants.{Input, Output, Other}
 use Rattle.paper.specs.Source.{Bounds, Initial, Named, Declared}
 use Rattle.paper.specs.Reading.{declare}
 use Rattle.paper.specs.Names.{same_kind, of_kind}
-use Rattle.tree.specs.Nodes.{word_of, child_of}
+use Rattle.tree.specs.Nodes.{child_of}
 use Rattle.tree.specs.Trees.{name_at, place_at, names_at, declaration_at, declared_at}
 use Rattle.tree.proofs.Frames.{stepped, names_node, names_step, declared_node, declared_step}
-use Rattle.variables.specs.Table.{type_at, section_at, bounds_in, initial_in}
 
 -- what each of some names is declared as
 module _ (k : Kind) (ty : Ty) (b : Bounds) (v : Initial) where
@@ -37,6 +37,18 @@ module _ (k : Kind) (ty : Ty) (b : Bounds) (v : Initial) where
   declare_one n = refl
 
 -- ---- those of one kind
+
+-- two kinds compared, as Rattle derives it
+pub same_kinds : (k l : Kind) → sameb the_type k l ≡ same_kind l k
+same_kinds Input Input = refl
+same_kinds Input Output = refl
+same_kinds Input Other = refl
+same_kinds Output Input = refl
+same_kinds Output Output = refl
+same_kinds Output Other = refl
+same_kinds Other Input = refl
+same_kinds Other Output = refl
+same_kinds Other Other = refl
 
 module _ (k : Kind) where
   pub kind_append : (ds es : List Declared) → of_kind k (ds ++ es) ≡ of_kind k ds ++ of_kind k es
@@ -65,23 +77,11 @@ module _ (k : Kind) where
 
 module _ (t p : List ℕ) where
   -- the names before and one more
-  pub names_are : (i a q : ℕ) → 0 < i → a ≡ child_of p i 1 → q ≡ place_at p i → names_at t p i ≡ names_at t p a ++ record { place = q; name = name_at t q } ∷ []
-  names_are i a q some e w =
+  pub names_are : (i q : ℕ) → 0 < i → q ≡ place_at p i → names_at t p i ≡ names_at t p (child_of p i 1) ++ record { place = q; name = name_at t q } ∷ []
+  names_are i q some w =
       stepped (names_at t p) (λ j. names_step t p j (names_at t p)) (names_node t p) i some
-      ∙ ap₂ (λ j z. names_at t p j ++ record { place = z; name = name_at t z } ∷ []) (sym e) (sym w)
+      ∙ ap (λ z. names_at t p (child_of p i 1) ++ record { place = z; name = name_at t z } ∷ []) (sym w)
 
   -- the declarations before and one more
-  pub declared_are : (d a j i : ℕ) → 0 < d → a ≡ child_of p d 1 → j ≡ child_of p d 2 → i ≡ child_of p j 1
-      → declared_at t p d ≡ declared_at t p a ++ declare (section_at p j) (type_at p j) (bounds_in p j) (initial_in p j) (names_at t p i)
-  declared_are d a j i some e f g =
-      stepped (declared_at t p) (λ j. declared_step t p j (declared_at t p)) (declared_node t p) d some
-      ∙ ap₂ (λ a j. declared_at t p a ++ declaration_at t p j) (sym e) (sym f)
-      ∙ ap (λ n. declared_at t p a ++ declare (section_at p j) (type_at p j) (bounds_in p j) (initial_in p j) (names_at t p n)) (sym g)
-
--- a child is at most the word that says it
-pub child_word : (p : List ℕ) (i k : ℕ) → child_of p i k ≤ word_of p i k
-child_word p i k = go (ltb (word_of p i k) i)
-  where
-    go : (b : Bool) → cond b (word_of p i k) 0 ≤ word_of p i k
-    go true = omega arith
-    go false = omega arith
+  pub declared_are : (d : ℕ) → 0 < d → declared_at t p d ≡ declared_at t p (child_of p d 1) ++ declaration_at t p (child_of p d 2)
+  declared_are d some = stepped (declared_at t p) (λ j. declared_step t p j (declared_at t p)) (declared_node t p) d some

@@ -1,9 +1,9 @@
 -- What the table holds once variables were added: as many as it has room for.
-use Rattle.std.specs.Prelude.{◌≡◌, List, ◌++◌, map, ℕ, ◌+◌, ◌/◌, ◌%◌, ◌≤◌, ◌<◌, length, get_or, take}
+use Rattle.std.specs.Prelude.{◌≡◌, List, ◌++◌, map, ℕ, ◌+◌, ◌*◌, ◌/◌, ◌%◌, ◌≤◌, ◌<◌, length, get_or, take}
 use Rattle.paper.specs.declared.Kind.{Kind}
 use Rattle.paper.specs.Source.{Declared}
 use Rattle.paper.specs.Reading.{declare}
-use Rattle.paper.specs.Names.{Variable, kind_tag, of_kind, printed, placed}
+use Rattle.paper.specs.Names.{Variable, size_of, of_kind, printed, placed}
 use Rattle.tree.specs.Nodes.{word_of, written}
 use Rattle.tree.specs.Trees.{name_at, names_at, declared_at}
 use Rattle.variables.specs.Table.{section_at, type_at, bounds_in, initial_in, key_of, entries}
@@ -29,14 +29,15 @@ pub record Fills (t p old new : List ℕ) (f r : Filled) (more : List Declared) 
   pub listed : entries t p new r.count ≡ take (length old / 4) (entries t p old f.count ++ more)
   pub celled : Celled t p old f → Celled t p new r
 
--- those at the node i of a declaration j
-abbrev pub FillsNames : List ℕ → List ℕ → List ℕ → List ℕ → ℕ → ℕ → Filled → Filled → Type 0
-FillsNames t p old new i j f r =
-    Fills t p old new f r (declare (section_at p j) (type_at p j) (bounds_in p j) (initial_in p j) (names_at t p i))
+-- those at the node i of the pool q, of the declaration j of any pool, whose variables have so many cells
+abbrev pub FillsNames : List ℕ → List ℕ → List ℕ → List ℕ → ℕ → ℕ → ℕ → Filled → Filled → Type 0
+FillsNames t q old new i j size f r =
+    (p : List ℕ) → 4 * j + 4 ≤ length p → size ≡ size_of (bounds_in p j)
+    → Fills t p old new f r (declare (section_at p j) (type_at p j) (bounds_in p j) (initial_in p j) (names_at t q i))
 
--- those of the declarations at the node d whose section has the number n
-abbrev pub FillsKind : List ℕ → List ℕ → List ℕ → List ℕ → ℕ → ℕ → Filled → Filled → Type 0
-FillsKind t p old new d n f r = (k : Kind) → n ≡ kind_tag k → Fills t p old new f r (of_kind k (declared_at t p d))
+-- those of the declarations at the node d that are of one kind
+abbrev pub FillsKind : List ℕ → List ℕ → List ℕ → List ℕ → ℕ → Kind → Filled → Filled → Type 0
+FillsKind t p old new d k f r = Fills t p old new f r (of_kind k (declared_at t p d))
 
 -- the first cells of variables
 abbrev pub firsts_of : List Variable → List ℕ

@@ -5,16 +5,17 @@ ghost use Rattle.std.specs.Prelude.{◌+◌, ◌*◌, ◌≤◌, length};
 ghost use Rattle.names.specs.Judged.{Judged};
 
 use declared::Seen;
-use tree::child;
+use tree::node::node_at;
+use variables::listed::listed;
 
 mod body;
 mod declared;
 mod table;
 
-// One more than the place of the soonest fault, 0 where there is none; how many variables the table has, and their cells, modulo 65536.
+// The place of the soonest fault, None where there is none; how many variables the table has, and their cells, modulo 65536.
 #[derive(Clone, Copy)]
 pub struct Named {
-    pub first: usize,
+    pub first: Option<usize>,
     pub count: usize,
     pub cells: u16,
 }
@@ -30,18 +31,19 @@ pub fn first_bad_name(
     requires { (4 * root + 4 ≤ length pool.now) × (root ≤ length scratch.old) }
     ensures { Judged text.now pool.now table.old table.new (length scratch.old) root result }
 {
-    let d = child(pool, root, 1);
-    let filled = table::fill(text, pool, d, table);
+    let program = node_at(pool, root);
+    let declared = program.child(1);
+    let filled = table::fill(text, declared, table);
     let count = filled.count;
     let none = Seen {
         count: 0,
         cells: 0,
-        best: 0,
+        best: None,
     };
-    let seen = declared::declarations(text, pool, d, scratch, none);
+    let seen = declared::declarations(text, declared, scratch, none);
     let end = 4 * count;
-    let b = child(pool, root, 2);
-    let first = body::statements(text, pool, &table[..end], scratch, 0, b, seen.best);
+    let vars = listed(text, pool, &table[..end]);
+    let first = body::statements(vars, scratch, 0, program.child(2), seen.best);
     Named {
         first,
         count,

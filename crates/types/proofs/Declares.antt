@@ -1,88 +1,26 @@
 -- The faults of declarations, from those of one.
-use mathlib.Core.Path.{◌≡◌, refl, sym, ap, ap₂, ◌∙◌}
-use mathlib.Core.Bool.{Bool, true, false, not}
+use mathlib.Core.Path.{◌≡◌, sym, ap, ap₂, ◌∙◌}
 use mathlib.Core.List.{List, [], ◌∷◌, ◌++◌}
-use Prim.Native.Nat.{ℕ, suc, ◌≤◌, ◌<◌}
+use Prim.Native.Nat.{ℕ, ◌<◌}
 use native.Mathlib.Omega.{arith}
-use borrow.Author.Tests.{eq-eqb, ne_eqb, eqb-false}
-use lib.Dec.{eqb}
-use lib.IntN.{pos}
+use Rattle.std.specs.Prelude.{Option}
 use Rattle.paper.specs.declared.Ty.{Ty}
-use Rattle.paper.specs.declared.Ty.TheVariants.{Dint as DINT}
 use Rattle.paper.specs.declared.Kind.{Kind}
-use Rattle.paper.specs.Types as Y
 use Rattle.paper.specs.Source.{Bounds, Initial, Named, Declared}
-use Rattle.paper.specs.Names.{at}
 use Rattle.paper.specs.Reading.{declare}
 use Rattle.paper.specs.Typing as T
-use Rattle.tree.specs.Nodes.{kind_of, child_of}
-use Rattle.tree.specs.Trees.{place_at, wide, whole_at, names_at, bounds_at, initial_at, declaration_at, declared_at}
+use Rattle.tree.specs.Nodes.{child_of}
+use Rattle.tree.specs.Trees.{names_at, declaration_at, declared_at}
 use Rattle.tree.proofs.Frames.{stepped, names_step, names_node, names_nil, declared_step, declared_node, declared_nil}
-use Rattle.faults.specs.Soonest.{soonest, sooner, unless_of}
-use Rattle.faults.proofs.Soonest.{sooner_none, sooner_same, sooner_comm, sooner_assoc, soonest_none, soonest_one, soonest_append, soonest_unless}
+use Rattle.faults.specs.Soonest.{soonest, sooner}
+use Rattle.faults.proofs.Soonest.{sooner_none, sooner_same, sooner_comm, sooner_assoc, soonest_none, soonest_append}
 use Rattle.variables.specs.Table.{type_at, section_at, bounds_in, initial_in}
-use Rattle.types.specs.Statements.{value_at, IsDeclaration, IsDeclarations}
-
--- ---- bounds
-
-abbrev pub bound_fault : List ℕ → ℕ → ℕ
-bound_fault p j = unless_of (Y.fits DINT (pos (wide p j))) (place_at p j)
-
-module _ (p : List ℕ) (i : ℕ) where
-  pub bounds_single : (kind_of p i ≡ 34 → ⊥) → 0 ≡ soonest (T.bounds_faults (bounds_at p i))
-  bounds_single e = rw (ne_eqb (kind_of p i) 34 e) (sym soonest_none)
-
-  pub bounds_array : kind_of p i ≡ 34
-      → sooner (bound_fault p (child_of p i 1)) (bound_fault p (child_of p i 2)) ≡ soonest (T.bounds_faults (bounds_at p i))
-  bounds_array e =
-      let a = child_of p i 1 in
-      let b = child_of p i 2 in
-      rw (eq-eqb (kind_of p i) 34 e)
-      (sym (soonest_append (at (place_at p a) (not (Y.fits DINT (pos (wide p a))))) (at (place_at p b) (not (Y.fits DINT (pos (wide p b)))))
-      ∙ ap₂ sooner (soonest_unless (place_at p a) (Y.fits DINT (pos (wide p a)))) (soonest_unless (place_at p b) (Y.fits DINT (pos (wide p b))))))
-
--- ---- declared values
-
-module _ (p : List ℕ) (u : Ty) (i : ℕ) where
-  abbrev z : Bool
-  z = Y.fits (Y.for_numbers u) (whole_at p (child_of p i 1))
-
-  pub value_fits : z ≡ true → unless_of (Y.is_integer u) (place_at p i) ≡ soonest (T.initial_faults u (value_at p i))
-  value_fits e =
-      sym (ap (λ b. soonest (elim b as (λ _. List ℕ) [ true ↦ at (place_at p i) (not (Y.is_integer u)) | false ↦ place_at p (child_of p i 1) ∷ [] ])) e
-      ∙ soonest_unless (place_at p i) (Y.is_integer u))
-
-  pub value_wide : z ≡ false → suc (place_at p (child_of p i 1)) ≡ soonest (T.initial_faults u (value_at p i))
-  value_wide e =
-      sym (ap (λ b. soonest (elim b as (λ _. List ℕ) [ true ↦ at (place_at p i) (not (Y.is_integer u)) | false ↦ place_at p (child_of p i 1) ∷ [] ])) e
-      ∙ soonest_one (place_at p (child_of p i 1)))
-
-  pub initial_value_lem : kind_of p i ≡ 35 → soonest (T.initial_faults u (value_at p i)) ≡ soonest (T.initial_faults u (initial_at p i))
-  initial_value_lem e = rw (eq-eqb (kind_of p i) 35 e)
-
-  pub initial_none : (kind_of p i ≡ 35 → ⊥) → (kind_of p i ≡ 36 → ⊥) → (kind_of p i ≡ 37 → ⊥) → 0 ≡ soonest (T.initial_faults u (initial_at p i))
-  initial_none a b c = rw (ne_eqb (kind_of p i) 35 a, ne_eqb (kind_of p i) 36 b, ne_eqb (kind_of p i) 37 c) (sym soonest_none)
-
-  flag_is : unless_of (not (Y.is_integer u)) (place_at p i) ≡ soonest (at (place_at p i) (Y.is_integer u))
-  flag_is = go (Y.is_integer u)
-    where
-      go : (b : Bool) → unless_of (not b) (place_at p i) ≡ soonest (at (place_at p i) b)
-      go true = sym (soonest_one (place_at p i))
-      go false = sym soonest_none
-
-  pub initial_flag : 35 < kind_of p i → kind_of p i ≤ 37 → unless_of (not (Y.is_integer u)) (place_at p i) ≡ soonest (T.initial_faults u (initial_at p i))
-  initial_flag l m = go (eqb (kind_of p i) 36) refl
-    where
-      go : (b : Bool) → eqb (kind_of p i) 36 ≡ b → unless_of (not (Y.is_integer u)) (place_at p i) ≡ soonest (T.initial_faults u (initial_at p i))
-      go true e = rw (ne_eqb (kind_of p i) 35 (λ h. omega arith), e) flag_is
-      go false e =
-          let k : kind_of p i ≡ 37 = omega (arith, eqb-false (kind_of p i) 36 e) in
-          rw (ne_eqb (kind_of p i) 35 (λ h. omega arith), e, eq-eqb (kind_of p i) 37 k) flag_is
+use Rattle.types.specs.Statements.{IsDeclaration, IsDeclarations}
 
 -- ---- declarations
 
 module _ (k : Kind) (u : Ty) (b : Bounds) (v : Initial) where
-  abbrev own : ℕ
+  abbrev own : Option ℕ
   own = sooner (soonest (T.bounds_faults b)) (soonest (T.initial_faults u v))
 
   shared : (n : Named) (ns : List Named) → soonest (T.declaration_faults (declare k u b v (n ∷ ns))) ≡ own
@@ -103,7 +41,7 @@ names_some t p i s = go (names_at t p (child_of p i 1)) _ (stepped (names_at t p
     go [] m e = (m, [], e)
     go (x ∷ xs) m e = (x, xs ++ m ∷ [], e)
 
-module _ (p : List ℕ) (j best : ℕ) where
+module _ (p : List ℕ) (j : ℕ) (best : Option ℕ) where
   pub nothing_declared : child_of p j 1 ≡ 0 → IsDeclaration p j best best
   unfolding T.declaration_faults declare
   nothing_declared e t =
@@ -111,7 +49,7 @@ module _ (p : List ℕ) (j best : ℕ) where
       ∙ ap (sooner best) soonest_none
       ∙ sooner_none best)
 
-  pub one_declared : (child_of p j 1 ≡ 0 → ⊥) → (r x y : ℕ) → x ≡ soonest (T.bounds_faults (bounds_in p j)) → y ≡ soonest (T.initial_faults (type_at p j) (initial_in p j))
+  pub one_declared : (child_of p j 1 ≡ 0 → ⊥) → (r x y : Option ℕ) → x ≡ soonest (T.bounds_faults (bounds_in p j)) → y ≡ soonest (T.initial_faults (type_at p j) (initial_in p j))
       → r ≡ sooner best (sooner x y) → IsDeclaration p j best r
   one_declared e r x y hx hy hr t =
       let (n, ns, is) = names_some t p (child_of p j 1) (omega (arith, e)) in
@@ -129,14 +67,14 @@ append_faults (x ∷ xs) ys =
     ∙ sym (sooner_assoc (soonest own) (soonest (T.declaration_faults xs)) (soonest (T.declaration_faults ys)))
     ∙ ap (λ n. sooner n (soonest (T.declaration_faults ys))) (sym (soonest_append own (T.declaration_faults xs)))
 
-module _ (p : List ℕ) (d best : ℕ) where
+module _ (p : List ℕ) (d : ℕ) (best : Option ℕ) where
   pub no_declarations : d ≡ 0 → IsDeclarations p d best best
   unfolding T.declaration_faults
   no_declarations e t =
       sym (ap (λ ds. sooner best (soonest (T.declaration_faults ds))) (ap (declared_at t p) e ∙ declared_nil t p) ∙ ap (sooner best) soonest_none ∙ sooner_none best)
 
   -- the last declaration first
-  pub more_declarations : (x r : ℕ) → 0 < d → IsDeclaration p (child_of p d 2) best x → IsDeclarations p (child_of p d 1) x r → IsDeclarations p d best r
+  pub more_declarations : (x r : Option ℕ) → 0 < d → IsDeclaration p (child_of p d 2) best x → IsDeclarations p (child_of p d 1) x r → IsDeclarations p d best r
   more_declarations x r s hx hr t =
       let before = soonest (T.declaration_faults (declared_at t p (child_of p d 1))) in
       let last = soonest (T.declaration_faults (declaration_at t p (child_of p d 2))) in

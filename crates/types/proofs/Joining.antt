@@ -1,99 +1,66 @@
 -- Two operands joined, by the cases of what is said of them.
-use mathlib.Core.Path.{◌≡◌, sym, ap₂, ◌∙◌}
-use mathlib.Core.Bool.{Bool, true, false, not, ◌&&◌}
-use mathlib.Core.Logic.{◌⊎◌, ⊎_elim}
-use mathlib.Core.List.{List, ◌++◌}
+use mathlib.Core.Path.{◌≡◌, refl, sym, ap, ap₂, ◌∙◌}
+use mathlib.Core.Bool.{true, false}
+use mathlib.Core.List.{List}
 use Prim.Native.Nat.{ℕ}
-use native.Mathlib.Omega.{arith}
-use borrow.Author.Tests.{ne_eqb}
+use Rattle.std.specs.Prelude.{Option, None, Some}
 use Rattle.paper.specs.declared.Ty.{Ty}
-use Rattle.paper.specs.declared.Ty.TheVariants.{Dint as DINT}
+use Rattle.paper.specs.declared.Op.{Op}
 use Rattle.paper.specs.Types as Y
-use Rattle.paper.specs.Names.{at}
 use Rattle.paper.specs.Typing as T
 use Rattle.tree.specs.Nodes.{child_of}
-use Rattle.tree.specs.Trees.{place_at, expr_at}
-use Rattle.faults.specs.Soonest.{soonest, sooner, or_else_of, unless_of}
+use Rattle.faults.specs.Soonest.{sooner}
 use Rattle.faults.proofs.Soonest.{soonest_none, soonest_append}
 use Rattle.types.specs.declared.parts.Judged.{Judged}
+use Rattle.types.specs.declared.parts.Judged.TheVariants.{Typed, Numbers, Faulty}
 use Rattle.types.specs.declared.parts.Settled.{Settled}
-use Rattle.types.specs.Says.{operator_of, Says, Settling, IsDivisorFault}
-use Rattle.types.specs.Joins.{Unless, IsOperation, offered_by, OperatedAs, JoinedAs}
-use Rattle.types.proofs.Constants.{own_rule}
+use Rattle.types.specs.Says.{Says, fault_of, is_open, Settling}
+use Rattle.types.specs.Joins.{offered_by, OperatedAs, JoinedAs}
+use Rattle.types.proofs.Judging.{first_of}
 
-first_of : (x : Judged) (j : T.Judged) → Says x j → x.first ≡ soonest (T.faults_of j)
-first_of x (T.faulty ps) a = a.1
-first_of x T.numbers a = a.1 ∙ sym soonest_none
-first_of x (T.typed v) a = a.2 ∙ sym soonest_none
+typed_is : (u : Ty) (j : T.Judged) → Says (Typed u) j → j ≡ T.typed u
+typed_is u (T.faulty ps) a = absurd a
+typed_is u T.numbers a = absurd a
+typed_is u (T.typed v) a = ap T.typed (sym a)
 
--- ---- what two operands offer each other
+numbers_is : (j : T.Judged) → Says Numbers j → j ≡ T.numbers
+numbers_is (T.faulty ps) a = absurd a
+numbers_is T.numbers a = refl
+numbers_is (T.typed v) a = absurd a
 
-module _ (x y : Judged) where
-  pub offered_first : x.state ≡ 0 → x.ty ≡ offered_by x y
-  offered_first e = rw e
+some_sooner : (f : ℕ) (b : Option ℕ) → sooner (Some f) b ≡ None → ⊥
+some_sooner f None e = cc
+some_sooner f (Some g) e = cc
 
-  pub offered_second : (x.state ≡ 0 → ⊥) → y.state ≡ 0 → y.ty ≡ offered_by x y
-  offered_second n e = rw (ne_eqb x.state 0 n, e)
+module _ (p : List ℕ) (i : ℕ) (o : Op) where
+  -- the soonest fault of both
+  pub joined_faulty : (x y : Judged) (q : ℕ) → sooner (fault_of x) (fault_of y) ≡ Some q → JoinedAs p i o x y (Faulty q)
+  joined_faulty x y q e t (T.faulty ps) l a b = sym e ∙ ap₂ sooner (first_of x (T.faulty ps) a) (first_of y l b) ∙ sym (soonest_append ps (T.faults_of l))
+  joined_faulty (Typed u) y q e t T.numbers l a b = absurd a
+  joined_faulty (Faulty f) y q e t T.numbers l a b = absurd a
+  joined_faulty Numbers y q e t T.numbers (T.faulty qs) a b = sym e ∙ first_of y (T.faulty qs) b
+  joined_faulty Numbers y q e t T.numbers T.numbers a b = let z = sym e ∙ first_of y T.numbers b ∙ soonest_none in cc
+  joined_faulty Numbers y q e t T.numbers (T.typed v) a b = let z = sym e ∙ first_of y (T.typed v) b ∙ soonest_none in cc
+  joined_faulty Numbers y q e t (T.typed u) l a b = absurd a
+  joined_faulty (Faulty f) y q e t (T.typed u) l a b = absurd a
+  joined_faulty (Typed w) y q e t (T.typed u) (T.faulty qs) a b = sym e ∙ first_of y (T.faulty qs) b
+  joined_faulty (Typed w) y q e t (T.typed u) T.numbers a b = let z = sym e ∙ first_of y T.numbers b ∙ soonest_none in cc
+  joined_faulty (Typed w) y q e t (T.typed u) (T.typed v) a b = let z = sym e ∙ first_of y (T.typed v) b ∙ soonest_none in cc
 
-  pub offered_none : (x.state ≡ 0 → ⊥) → (y.state ≡ 0 → ⊥) → DINT ≡ offered_by x y
-  offered_none n e = rw (ne_eqb x.state 0 n, ne_eqb y.state 0 e)
-
-module _ (p : List ℕ) (i k : ℕ) where
-  -- ---- the operator's own rule
-
-  pub operated_as : (b d : ℕ) (g : Bool) (x y : Settled) (r : Judged)
-      → IsDivisorFault p k b d → IsOperation p k b x.ty y.ty g
-      → Unless (or_else_of (sooner (sooner x.first y.first) d) (unless_of g (place_at p i))) (Y.gives (Y.sort_of (operator_of k)) x.ty) r
-      → OperatedAs p i k b x y r
-  operated_as b d g x y r divisor good h t u v su sv =
-      let o = operator_of k in
-      let f = expr_at t p b in
-      let own = Y.same_ty u.ty v.ty && Y.takes (Y.sort_of o) u.ty && T.is_good_divisor o f in
-      let ps = T.or_else (u.faults ++ v.faults ++ T.divisor_fault o f) (at (place_at p i) (not own)) in
-      let e : g ≡ own = good t ∙ ap₂ (λ a c. Y.same_ty a c && Y.takes (Y.sort_of o) a && T.is_good_divisor o f) su.ty sv.ty in
-      let all : or_else_of (sooner (sooner x.first y.first) d) (unless_of g (place_at p i)) ≡ soonest ps =
-      rw (su.first, sv.first, divisor t, e)
-      (sym (own_rule u.faults v.faults (T.divisor_fault o f) (place_at p i) own)) in
-      rw su.ty at (h ps all)
-
-  -- ---- by what is said of the operands
-
-  module _ (x y r : Judged) where
-    pub joined_faulty : (x.state ≡ 2) ⊎ (y.state ≡ 2) → r.state ≡ 2 → r.first ≡ sooner x.first y.first → JoinedAs p i k x y r
-    joined_faulty w s f t (T.faulty ps) l a b =
-        (s, f ∙ ap₂ sooner a.1 (first_of y l b) ∙ sym (soonest_append ps (T.faults_of l)))
-    joined_faulty w s f t T.numbers (T.faulty qs) a b = (s, f ∙ ap₂ sooner a.1 b.1)
-    joined_faulty w s f t T.numbers T.numbers a b = absurd (⊎_elim (λ e. omega (arith, a.0)) (λ e. omega (arith, b.0)) w)
-    joined_faulty w s f t T.numbers (T.typed v) a b = absurd (⊎_elim (λ e. omega (arith, a.0)) (λ e. omega (arith, b.0)) w)
-    joined_faulty w s f t (T.typed u) (T.faulty qs) a b = (s, f ∙ ap₂ sooner a.2 b.1)
-    joined_faulty w s f t (T.typed u) T.numbers a b = absurd (⊎_elim (λ e. omega (arith, a.0)) (λ e. omega (arith, b.0)) w)
-    joined_faulty w s f t (T.typed u) (T.typed v) a b = absurd (⊎_elim (λ e. omega (arith, a.0)) (λ e. omega (arith, b.0)) w)
-
-  module _ (x y : Judged) where
-    pub joined_open : x.state ≡ 1 → y.state ≡ 1 → Y.is_arithmetic (Y.sort_of (operator_of k)) ≡ true → JoinedAs p i k x y x
-    joined_open m n h t (T.faulty ps) l a b = absurd (omega (arith, a.0))
-    joined_open m n h t T.numbers (T.faulty qs) a b = absurd (omega (arith, b.0))
-    joined_open m n h t T.numbers T.numbers a b = rw h a
-    joined_open m n h t T.numbers (T.typed v) a b = absurd (omega (arith, b.0))
-    joined_open m n h t (T.typed u) l a b = absurd (omega (arith, a.0))
-
-    module _ (v w : Settled) (r : Judged)
-        (first : Settling p (offered_by x y) (child_of p i 1) x v)
-        (second : Settling p (offered_by x y) (child_of p i 2) y w)
-        (own : OperatedAs p i k (child_of p i 2) v w r) where
-      -- both settled where u is offered
-      both : (u : Ty) (t : List ℕ) (j l : T.Judged) → offered_by x y ≡ u → Says x j → Says y l
-          → Says r (T.operated (place_at p i) (operator_of k) (expr_at t p (child_of p i 2)) (T.settle u (expr_at t p (child_of p i 1)) j) (T.settle u (expr_at t p (child_of p i 2)) l))
-      both u t j l e a b = own t _ _ (rw e at (first t j a)) (rw e at (second t l b))
-
-      pub joined_operated : (x.state ≡ 2 → ⊥) → (y.state ≡ 2 → ⊥)
-          → (x.state ≡ 1 → y.state ≡ 1 → Y.is_arithmetic (Y.sort_of (operator_of k)) ≡ false) → JoinedAs p i k x y r
-      joined_operated m n h t (T.faulty ps) l a b = absurd (m a.0)
-      joined_operated m n h t T.numbers (T.faulty qs) a b = absurd (n b.0)
-      joined_operated m n h t T.numbers T.numbers a b =
-          rw (h a.0 b.0) (both DINT t T.numbers T.numbers (sym (offered_none x y (omega (arith, a.0)) (omega (arith, b.0)))) a b)
-      joined_operated m n h t T.numbers (T.typed u) a b =
-          both u t T.numbers (T.typed u) (sym (offered_second x y (omega (arith, a.0)) b.0) ∙ b.1) a b
-      joined_operated m n h t (T.typed u) (T.faulty qs) a b = absurd (n b.0)
-      joined_operated m n h t (T.typed u) T.numbers a b = both u t (T.typed u) T.numbers (sym (offered_first x y a.0) ∙ a.1) a b
-      joined_operated m n h t (T.typed u) (T.typed v) a b = both u t (T.typed u) (T.typed v) (sym (offered_first x y a.0) ∙ a.1) a b
+  pub joined_operated : (x y : Judged) (v w : Settled) (r : Judged)
+      → Settling p (offered_by x y) (child_of p i 1) x v
+      → Settling p (offered_by x y) (child_of p i 2) y w
+      → OperatedAs p i o v w r
+      → sooner (fault_of x) (fault_of y) ≡ None
+      → (is_open x ≡ true → is_open y ≡ true → Y.is_arithmetic (Y.sort_of o) ≡ false) → JoinedAs p i o x y r
+  joined_operated (Typed u) (Typed m) v w r first second own n h t j l a b =
+      rw (typed_is u j a, typed_is m l b) (own t _ _ (first t (T.typed u) refl) (second t (T.typed m) refl))
+  joined_operated (Typed u) Numbers v w r first second own n h t j l a b =
+      rw (typed_is u j a, numbers_is l b) (own t _ _ (first t (T.typed u) refl) (second t T.numbers tt))
+  joined_operated (Typed u) (Faulty g) v w r first second own n h t j l a b = cc
+  joined_operated Numbers (Typed m) v w r first second own n h t j l a b =
+      rw (numbers_is j a, typed_is m l b) (own t _ _ (first t T.numbers tt) (second t (T.typed m) refl))
+  joined_operated Numbers Numbers v w r first second own n h t j l a b =
+      rw (numbers_is j a, numbers_is l b, h refl refl) (own t _ _ (first t T.numbers tt) (second t T.numbers tt))
+  joined_operated Numbers (Faulty g) v w r first second own n h t j l a b = cc
+  joined_operated (Faulty f) y v w r first second own n h t j l a b = absurd (some_sooner f (fault_of y) n)

@@ -1,5 +1,3 @@
-mod Operators
-mod Views
 mod Constants
 pub mod Judging
 mod Joining

@@ -4,8 +4,8 @@ use mathlib.Core.Bool.{Bool, true, false, not, beq, true≢false}
 use mathlib.Core.Logic.{◌⊎◌, inl, inr}
 use mathlib.Core.Option.{none, some}
 use mathlib.Core.List.{List, [], ◌∷◌}
-use Prim.Native.Nat.{ℕ, suc, ◌/◌, ◌≤◌, ◌<◌}
-use lib.ListN.{length}
+use Prim.Native.Nat.{ℕ}
+use Rattle.std.specs.Prelude.{Option, Some}
 use Rattle.paper.specs.declared.Ty.{Ty}
 use Rattle.paper.specs.declared.Ty.TheVariants.{Bool as BOOL}
 use Rattle.paper.specs.Source.{Name, Bounds, single, array}
@@ -15,11 +15,22 @@ use Rattle.tree.specs.Nodes.{word_of}
 use Rattle.tree.specs.Trees.{name_at}
 use Rattle.faults.specs.Soonest.{soonest, sooner}
 use Rattle.faults.proofs.Soonest.{soonest_none, soonest_more, sooner_comm}
-use Rattle.variables.specs.Table.{type_at, bounds_in, node_in, variables_in, Finds}
+use Rattle.variables.specs.Table.{type_at, bounds_in, node_in, variables_in, Found, Missing}
 use Rattle.types.specs.declared.parts.Judged.{Judged}
 use Rattle.types.specs.Says.{Says}
 use Rattle.types.specs.Joins.{Unless, NamedAs}
-use Rattle.types.proofs.Operators.{same_bool, other_bool}
+
+same_bool : (a b : Bool) → beq a b ≡ true → a ≡ b
+same_bool true true h = refl
+same_bool true false h = cc
+same_bool false true h = cc
+same_bool false false h = refl
+
+other_bool : (a b : Bool) → beq a b ≡ false → a ≡ not b
+other_bool true true h = cc
+other_bool true false h = refl
+other_bool false true h = refl
+other_bool false false h = cc
 
 module _ (vs : List Variable) (q : ℕ) (s : Name) where
   -- there is no such variable, or it is an array against what is asked
@@ -66,11 +77,11 @@ module _ (vs : List Variable) (q : ℕ) (s : Name) where
       go (array p lo q' hi) a = absurd (true≢false a)
 
 -- the name's own fault, beside those of its subscript
-own_fault : (q sub : ℕ) (ps : List ℕ) (r : Judged) → Unless (sooner sub (suc q)) BOOL r → sub ≡ soonest ps → Says r (T.faulty (q ∷ ps))
+own_fault : (q : ℕ) (sub : Option ℕ) (ps : List ℕ) (r : Judged) → Unless (sooner sub (Some q)) BOOL r → sub ≡ soonest ps → Says r (T.faulty (q ∷ ps))
 own_fault q sub ps r h e =
-    h (q ∷ ps) (sooner_comm sub (suc q) ∙ ap (sooner (suc q)) e ∙ sym (soonest_more q ps))
+    h (q ∷ ps) (sooner_comm sub (Some q) ∙ ap (sooner (Some q)) e ∙ sym (soonest_more q ps))
 
-module _ (t p tab : List ℕ) (q v : ℕ) (found : Finds t tab q v) (sub : ℕ) (r : Judged) (b : Bool) where
+module _ (t p tab : List ℕ) (q : ℕ) (sub : Option ℕ) (r : Judged) (b : Bool) where
   abbrev vs : List Variable
   vs = variables_in t p tab
 
@@ -81,24 +92,24 @@ module _ (t p tab : List ℕ) (q v : ℕ) (found : Finds t tab q v) (sub : ℕ) 
   right false w f a h = λ e. rw (name_right vs q s w f a) (h [] (e ∙ sym soonest_none))
   right true w f a h = λ ps e. rw (element_right vs q s w ps f a) (h ps e)
 
-  wrong : (c : Bool) → Wrong vs q s c → Unless (sooner sub (suc q)) BOOL r → NamedAs t p tab q c sub r
+  wrong : (c : Bool) → Wrong vs q s c → Unless (sooner sub (Some q)) BOOL r → NamedAs t p tab q c sub r
   wrong false w h = λ e. rw (name_wrong vs q s w) (own_fault q sub [] r h (e ∙ sym soonest_none))
   wrong true w h = λ ps e. rw (element_wrong vs q s ps w) (own_fault q sub ps r h e)
 
-  pub named_missing : length tab / 4 ≤ v → Unless (sooner sub (suc q)) BOOL r → NamedAs t p tab q b sub r
-  named_missing l h = wrong b (inl (found.missing l p)) h
+  pub named_missing : Missing t tab q → Unless (sooner sub (Some q)) BOOL r → NamedAs t p tab q b sub r
+  named_missing m h = wrong b (inl (m.declared p)) h
 
-  -- its declaration is the node j, of the type u, and an array where a says so
-  module _ (l : v < length tab / 4) (j : ℕ) (node : j ≡ node_in p (word_of tab v 1)) (a : Bool) (is : a ≡ is_array (bounds_in p j)) where
+  -- it is the variable v, whose declaration is the node j, an array where a says so
+  module _ (v : ℕ) (found : Found t tab q v) (j : ℕ) (node : j ≡ node_in p (word_of tab v 1)) (a : Bool) (is : a ≡ is_array (bounds_in p j)) where
     array_is : is_array (bounds_in p (node_in p (word_of tab v 1))) ≡ a
     array_is = ap (λ n. is_array (bounds_in p n)) (sym node) ∙ sym is
 
     pub named_right : (u : Ty) → u ≡ type_at p j → beq a b ≡ true → Unless sub u r → NamedAs t p tab q b sub r
     named_right u e same h =
-        let (m, f) = found.found l p in
+        let (m, f) = found.declared p in
         right b _ f (array_is ∙ same_bool a b same) (rw (e ∙ ap (type_at p) node) at h)
 
-    pub named_other : beq a b ≡ false → Unless (sooner sub (suc q)) BOOL r → NamedAs t p tab q b sub r
+    pub named_other : beq a b ≡ false → Unless (sooner sub (Some q)) BOOL r → NamedAs t p tab q b sub r
     named_other other h =
-        let (m, f) = found.found l p in
+        let (m, f) = found.declared p in
         wrong b (inr (_, f, array_is ∙ other_bool a b other)) h

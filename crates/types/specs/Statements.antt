@@ -1,6 +1,7 @@
 -- The faults of statements and declarations, as the nodes of the pool hold them.
-use Rattle.std.specs.Prelude.{◌≡◌, Bool, List, [], ◌++◌, ℕ, zero, suc, ◌<◌, get_or}
-use Rattle.std.proofs.Math.Option.{Option, none, some}
+use Rattle.std.specs.Prelude.{◌≡◌, Bool, List, [], ◌++◌, ℕ, ◌<◌, get_or, Option, None, Some}
+use Rattle.std.proofs.Math.Option as Math
+use Rattle.std.proofs.Math.Option.{none, some}
 use Rattle.paper.specs.declared.Ty.{Ty}
 use Rattle.paper.specs.declared.Ty.TheVariants.{Bool as BOOL, Dint as DINT}
 use Rattle.paper.specs.Source.{Name, Stmts, done, choice, select, loop, Initial, value}
@@ -11,14 +12,14 @@ use Rattle.tree.specs.Trees.{place_at, whole_at, name_at, expr_at, front_at, arm
 use Rattle.faults.specs.Soonest.{soonest, sooner}
 use Rattle.variables.specs.Table.{variables_in, names_to}
 use Rattle.types.specs.declared.parts.Judged.{Judged}
-use Rattle.types.specs.declared.body.Selector.{Selector}
+use Rattle.types.specs.declared.parts.Settled.{Settled}
 use Rattle.types.specs.declared.body.Limit.{Limit}
-use Rattle.types.specs.Says.{Says, around}
+use Rattle.types.specs.Says.{Says, Settles, around}
 
 -- ---- the own faults of a statement at a node, with the FORs ls around
 
 -- from the judgements of both sides, the right one being the node b
-abbrev pub AssignedAs : List ℕ → ℕ → ℕ → Judged → Judged → ℕ → Type 0
+abbrev pub AssignedAs : List ℕ → ℕ → ℕ → Judged → Judged → Option ℕ → Type 0
 AssignedAs p q b x y r =
     (t : List ℕ) (j l : T.Judged) → Says x j → Says y l → r ≡ soonest (T.assign_faults q (expr_at t p b) j l)
 
@@ -45,45 +46,41 @@ head_at vs ls t p i =
     (expr_at t p (child_of p h 2))
 
 -- r is the soonest of these
-abbrev pub FirstOf : Own → List ℕ → List ℕ → List ℕ → List ℕ → ℕ → ℕ → Type 0
-FirstOf own t p tab loops i r = r ≡ soonest (own (variables_in t p tab) (around t loops) t p i)
+abbrev pub FirstOf : Own → List Variable → List ℕ → List ℕ → List ℕ → ℕ → Option ℕ → Type 0
+FirstOf own vs t loops p i r = r ≡ soonest (own vs (around t loops) t p i)
 
 -- one of a, b and c of a FOR
 pub record Limits (r : Limit) (s : T.Settled) (good : Bool) : Type 0 where
   pub first : r.first ≡ soonest s.faults
   pub sound : r.good ≡ good
 
-abbrev pub LimitAt : List ℕ → List ℕ → List ℕ → List ℕ → Ty → ℕ → Limit → Type 0
-LimitAt t p tab loops u i r =
-    let s = T.settled (variables_in t p tab) (around t loops) u (expr_at t p i) in
+abbrev pub LimitAt : List Variable → List ℕ → List ℕ → List ℕ → Ty → ℕ → Limit → Type 0
+LimitAt vs t loops p u i r =
+    let s = T.settled vs (around t loops) u (expr_at t p i) in
     Limits r s (T.is_bound (around t loops) u (expr_at t p i) s)
 
--- a selector whose faults are ps
-pub record Selects (r : Selector) (ps : List ℕ) (u : Ty) : Type 0 where
-  pub first : r.first ≡ soonest ps
-  pub ty : r.ty ≡ u
-
-abbrev pub SelectorAt : List ℕ → List ℕ → List ℕ → List ℕ → ℕ → Selector → Type 0
-SelectorAt t p tab loops i r =
-    let s = T.settled (variables_in t p tab) (around t loops) DINT (expr_at t p (child_of p i 1)) in
-    Selects r (selector_at (variables_in t p tab) (around t loops) t p i) s.ty
+-- a selector of the type that its expression has, with the faults of its rule
+abbrev pub SelectorAt : List Variable → List ℕ → List ℕ → List ℕ → ℕ → Settled → Type 0
+SelectorAt vs t loops p i r =
+    let s = T.settled vs (around t loops) DINT (expr_at t p (child_of p i 1)) in
+    Settles r (record { faults = selector_at vs (around t loops) t p i; ty = s.ty })
 
 -- what the labels hear of it: its type, where it has no fault
-abbrev pub heard : Selector → Option Ty
-heard s = elim s.first [ zero ↦ some s.ty | suc q ↦ none ]
+abbrev pub heard : Settled → Math.Option Ty
+heard s = elim s.first [ None ↦ some s.ty | Some q ↦ none ]
 
 -- ---- what a statement puts in front of a list
 
 -- k starts with no arm, which alone hears the selector around
 abbrev pub Deaf : List Variable → List Name → Stmts → Type 0
 Deaf vs ls k =
-    (sel : Option Ty) → soonest (T.statement_faults vs k ls sel) ≡ soonest (T.statement_faults vs k ls (some DINT))
+    (sel : Math.Option Ty) → soonest (T.statement_faults vs k ls sel) ≡ soonest (T.statement_faults vs k ls (some DINT))
 
 -- r is the sooner of `best` and of the faults of what f puts in front of a list
-pub record Puts (vs : List Variable) (ls : List Name) (f : Stmts → Stmts) (best r : ℕ) : Type 0 where
-  pub own : ℕ
+pub record Puts (vs : List Variable) (ls : List Name) (f : Stmts → Stmts) (best r : Option ℕ) : Type 0 where
+  pub own : Option ℕ
   pub is : r ≡ sooner best own
-  pub front : (k : Stmts) → Deaf vs ls k → (sel : Option Ty)
+  pub front : (k : Stmts) → Deaf vs ls k → (sel : Math.Option Ty)
       → soonest (T.statement_faults vs (f k) ls sel) ≡ sooner own (soonest (T.statement_faults vs k ls (some DINT)))
 
 abbrev pub choice_front : List ℕ → List ℕ → ℕ → Stmts → Stmts
@@ -108,14 +105,14 @@ abbrev pub Kept : ℕ → List ℕ → List ℕ → Type 0
 Kept n old new = (k : ℕ) → k < n → get_or new k 0 ≡ get_or old k 0
 
 -- what a walk of statements promises, `depth` FORs being around, whose places `loops` holds
-pub record Walks (t p tab loops after : List ℕ) (depth : ℕ) (f : Stmts → Stmts) (best r : ℕ) : Type 0 where
+pub record Walks (t p tab loops after : List ℕ) (depth : ℕ) (f : Stmts → Stmts) (best r : Option ℕ) : Type 0 where
   pub kept : Kept depth loops after
   pub puts : Puts (variables_in t p tab) (names_to t loops depth) f best r
 
--- the same of the arms of a CASE
-pub record WalksArms (t p tab loops after : List ℕ) (depth i : ℕ) (s : Selector) (best r : ℕ) : Type 0 where
+-- the same of the arms of a CASE, the list k
+pub record WalksArms (t p tab loops after : List ℕ) (depth : ℕ) (k : Stmts) (s : Settled) (best r : Option ℕ) : Type 0 where
   pub kept : Kept depth loops after
-  pub is : r ≡ sooner best (soonest (T.statement_faults (variables_in t p tab) (arms_at t p i) (names_to t loops depth) (heard s)))
+  pub is : r ≡ sooner best (soonest (T.statement_faults (variables_in t p tab) k (names_to t loops depth) (heard s)))
 
 -- ---- declarations, of whatever text
 
@@ -123,10 +120,10 @@ pub record WalksArms (t p tab loops after : List ℕ) (depth i : ℕ) (s : Selec
 abbrev pub value_at : List ℕ → ℕ → Initial
 value_at p i = value (place_at p i) (place_at p (child_of p i 1)) (whole_at p (child_of p i 1))
 
-abbrev pub IsDeclaration : List ℕ → ℕ → ℕ → ℕ → Type 0
+abbrev pub IsDeclaration : List ℕ → ℕ → Option ℕ → Option ℕ → Type 0
 IsDeclaration p j best r = (t : List ℕ) → r ≡ sooner best (soonest (T.declaration_faults (declaration_at t p j)))
 
-abbrev pub IsDeclarations : List ℕ → ℕ → ℕ → ℕ → Type 0
+abbrev pub IsDeclarations : List ℕ → ℕ → Option ℕ → Option ℕ → Type 0
 IsDeclarations p d best r = (t : List ℕ) → r ≡ sooner best (soonest (T.declaration_faults (declared_at t p d)))
 
 -- ---- a program, with the variables of the table

@@ -1,117 +1,105 @@
 // Refusal 6 of statements.
-ghost use Rattle.std.specs.Prelude.{◌≡◌, ◌&&◌, ◌+◌, ◌*◌, ◌≤◌, ◌<◌, length};
+ghost use Rattle.std.specs.Prelude.{◌≡◌, not, ◌&&◌, ◌+◌, ◌≤◌, ◌<◌, length};
+ghost use Rattle.std.specs.Bool.{then_some};
 ghost use Rattle.std.proofs.Math.Option.{some};
 ghost use Rattle.paper.specs.Types as Y;
 ghost use Rattle.paper.specs.Typing as T;
-ghost use Rattle.tree.specs.Trees.{place_at, whole_at, name_at, expr_at, label_at, labels_at, front_at};
-ghost use Rattle.faults.specs.Soonest.{soonest, sooner, unless_of};
+ghost use Rattle.tree.specs.Trees.{place_at, whole_at, name_at, expr_at, label_at, labels_at, arms_at, front_at};
+ghost use Rattle.faults.specs.Soonest.{soonest, sooner};
 ghost use Rattle.variables.specs.Table.{variables_in};
 ghost use Rattle.types.specs.Says.{around};
 ghost use Rattle.types.specs.Statements.{AssignedAs, FirstOf, assign_at, condition_at, head_at, LimitAt, SelectorAt, heard, choice_front, select_front, loop_front, Walks, WalksArms};
 
 use crate::numbers::is_constant;
-use crate::parts::{FAULTY, Judged, NUMBERS, demand, is_integer, judge, judge_in, settle};
-use faults::{or_else, sooner_of, unless, with_fault};
+use crate::parts::{Judged, Settled, demand, is_integer, judge, judge_in, settle};
+use faults::{of_rule, sooner_of, with_fault};
 use paper::Ty;
-use tree::{child, whole, word};
-use value::{fits, same_type};
-use variables::{declaration_of, find, type_of};
+use tree::kinds::{Arms, Statement};
+use tree::node::Node;
+use value::fits;
+use variables::declared::type_of;
+use variables::listed::Variables;
 
 // One of a, b and c of a FOR: its soonest fault, and whether it is a scan constant of the loop's type.
 #[derive(Clone, Copy)]
 pub struct Limit {
-    pub first: usize,
+    pub first: Option<usize>,
     pub good: bool,
 }
 
-// The selector of a CASE: its soonest fault, and its type, which the labels take where there is no fault.
-#[derive(Clone, Copy)]
-pub struct Selector {
-    pub first: usize,
-    pub ty: Ty,
+// The right side, at a node, has the target's type; where the target is faulty, numbers only aren't judged.
+#[tactic(auto, using(faults::proofs::Soonest::soonest_steps, crate::proofs::Judging::assigned))]
+fn assigned(q: u16, n: Node, x: Judged, y: Judged) -> Option<usize>
+    ensures { AssignedAs n.entry.pool.now q n.entry.at x y result }
+{
+    match x {
+        Judged::Faulty(place) => sooner_of(Some(place), y.fault()),
+        Judged::Numbers => with_fault(y.fault(), q),
+        Judged::Typed(t) => demand(t, q, settle(t, n, y)),
+    }
 }
 
-// The right side, at the node `b`, has the target's type; where the target is faulty, numbers only aren't judged.
-fn assigned(pool: &[u16], q: u16, b: usize, x: Judged, y: Judged) -> usize
-    requires { 4 * b + 4 ≤ length pool.now }
-    ensures { AssignedAs pool.now q b x y result }
+fn assignment(vars: Variables, loops: &[u16], n: Node) -> Option<usize>
+    ensures { FirstOf assign_at (variables_in vars.entry.text.now vars.entry.pool.now vars.entry.table.now) vars.entry.text.now loops.now
+        n.entry.pool.now n.entry.at result }
 {
-    if x.state == FAULTY {
-        return sooner_of(x.first, y.first);
-    }
-    if x.state == NUMBERS {
-        return with_fault(y.first, q);
-    }
-    let t = x.ty;
-    demand(t, q, settle(pool, t, b, y))
-}
-
-fn assignment(text: &[u8], pool: &[u16], table: &[u16], loops: &[u16], i: usize) -> usize
-    requires { 4 * i + 4 ≤ length pool.now }
-    ensures { FirstOf assign_at text.now pool.now table.now loops.now i result }
-{
-    let a = child(pool, i, 1);
-    let b = child(pool, i, 2);
-    let x = judge(text, pool, table, loops, a);
-    let y = judge(text, pool, table, loops, b);
-    assigned(pool, word(pool, i, 3), b, x, y)
+    let a = n.child(1);
+    let b = n.child(2);
+    let x = judge(vars, loops, a);
+    let y = judge(vars, loops, b);
+    assigned(n.place(), b, x, y)
 }
 
 // The condition of an IF is a BOOL.
-fn condition(text: &[u8], pool: &[u16], table: &[u16], loops: &[u16], i: usize) -> usize
-    requires { 4 * i + 4 ≤ length pool.now }
-    ensures { FirstOf condition_at text.now pool.now table.now loops.now i result }
+#[tactic(auto, using(faults::proofs::Soonest::soonest_steps))]
+fn condition(vars: Variables, loops: &[u16], n: Node) -> Option<usize>
+    ensures { FirstOf condition_at (variables_in vars.entry.text.now vars.entry.pool.now vars.entry.table.now) vars.entry.text.now loops.now
+        n.entry.pool.now n.entry.at result }
 {
-    let a = child(pool, i, 1);
-    let s = judge_in(text, pool, table, loops, Ty::Dint, a);
-    demand(Ty::Bool, word(pool, i, 3), s)
+    let s = judge_in(vars, loops, Ty::Dint, n.child(1));
+    demand(Ty::Bool, n.place(), s)
 }
 
-fn selector_of(text: &[u8], pool: &[u16], table: &[u16], loops: &[u16], i: usize) -> Selector
-    requires { 4 * i + 4 ≤ length pool.now }
-    ensures { SelectorAt text.now pool.now table.now loops.now i result }
+// The selector of a CASE, whose type the labels take where there is no fault.
+#[tactic(auto, using(faults::proofs::Soonest::soonest_steps))]
+fn selector_of(vars: Variables, loops: &[u16], n: Node) -> Settled
+    ensures { SelectorAt (variables_in vars.entry.text.now vars.entry.pool.now vars.entry.table.now) vars.entry.text.now loops.now
+        n.entry.pool.now n.entry.at result }
 {
-    let a = child(pool, i, 1);
-    let s = judge_in(text, pool, table, loops, Ty::Dint, a);
-    let t = s.ty;
-    let own = unless(is_integer(t), word(pool, i, 3));
-    Selector {
-        first: or_else(s.first, own),
-        ty: t,
+    let s = judge_in(vars, loops, Ty::Dint, n.child(1));
+    Settled {
+        first: of_rule(s.first, is_integer(s.ty), n.place()),
+        ..s
     }
 }
 
 // ---- FOR
 
 // The declared type of a name, DINT where there is none.
-fn type_of_name(text: &[u8], pool: &[u16], table: &[u16], place: u16) -> Ty
-    requires { 4 ≤ length pool.now }
-    ensures { result ≡ T.type_of_name (variables_in text.now pool.now table.now) (name_at text.now place) }
+fn type_of_name(vars: Variables, place: u16) -> Ty
+    ensures { result ≡ T.type_of_name (variables_in vars.entry.text.now vars.entry.pool.now vars.entry.table.now) (name_at vars.entry.text.now place) }
 {
-    let v = find(text, table, place);
-    if v < table.len() / 4 {
-        return type_of(pool, declaration_of(pool, table, v));
+    match vars.find(place) {
+        Some(v) => type_of(vars.declaration(v)),
+        None => Ty::Dint,
     }
-    Ty::Dint
 }
 
 // A scan constant of the type `t`, `u` being its own.
-fn is_bound(text: &[u8], pool: &[u16], loops: &[u16], t: Ty, i: usize, u: Ty) -> bool
-    requires { 4 * i + 4 ≤ length pool.now }
-    ensures { result ≡ (T.is_constant (around text.now loops.now) (expr_at text.now pool.now i) && Y.same_ty t u) }
+fn is_bound(text: &[u8], loops: &[u16], t: Ty, n: Node, u: Ty) -> bool
+    ensures { result ≡ (T.is_constant (around text.now loops.now) (expr_at text.now n.entry.pool.now n.entry.at) && Y.same_ty t u) }
 {
-    is_constant(text, pool, loops, i) && same_type(t, u)
+    is_constant(text, loops, n) && t == u
 }
 
-fn limit_of(text: &[u8], pool: &[u16], table: &[u16], loops: &[u16], t: Ty, i: usize) -> Limit
-    requires { 4 * i + 4 ≤ length pool.now }
-    ensures { LimitAt text.now pool.now table.now loops.now t i result }
+fn limit_of(vars: Variables, loops: &[u16], t: Ty, n: Node) -> Limit
+    ensures { LimitAt (variables_in vars.entry.text.now vars.entry.pool.now vars.entry.table.now) vars.entry.text.now loops.now
+        n.entry.pool.now t n.entry.at result }
 {
-    let s = judge_in(text, pool, table, loops, t, i);
-    let u = s.ty;
+    let s = judge_in(vars, loops, t, n);
     Limit {
         first: s.first,
-        good: is_bound(text, pool, loops, t, i, u),
+        good: is_bound(vars.text, loops, t, n, s.ty),
     }
 }
 
@@ -119,210 +107,179 @@ fn limit_of(text: &[u8], pool: &[u16], table: &[u16], loops: &[u16], t: Ty, i: u
 fn both(x: Limit, y: Limit) -> Limit
     ensures { (result.first ≡ sooner x.first y.first) × (result.good ≡ (x.good && y.good)) }
 {
-    let first = sooner_of(x.first, y.first);
-    if x.good {
-        return Limit {
-            first,
-            good: y.good,
-        };
+    Limit {
+        first: sooner_of(x.first, y.first),
+        good: x.good && y.good,
     }
-    Limit { first, good: false }
 }
 
-// The FOR at the node `i`: a, b and c, and where they are sound the FOR itself.
-fn head(text: &[u8], pool: &[u16], table: &[u16], loops: &[u16], i: usize) -> usize
-    requires { 4 * i + 4 ≤ length pool.now }
-    ensures { FirstOf head_at text.now pool.now table.now loops.now i result }
+// The FOR at a node: a, b and c, and where they are sound the FOR itself.
+#[tactic(auto, using(crate::proofs::Owns::head_is, faults::proofs::Soonest::soonest_steps))]
+fn head(vars: Variables, loops: &[u16], n: Node) -> Option<usize>
+    ensures { FirstOf head_at (variables_in vars.entry.text.now vars.entry.pool.now vars.entry.table.now) vars.entry.text.now loops.now
+        n.entry.pool.now n.entry.at result }
 {
-    let h = child(pool, i, 1);
-    let g = child(pool, h, 1);
-    let a = child(pool, g, 1);
-    let b = child(pool, g, 2);
-    let c = child(pool, h, 2);
-    let t = type_of_name(text, pool, table, word(pool, h, 3));
-    let x = limit_of(text, pool, table, loops, t, a);
-    let y = limit_of(text, pool, table, loops, t, b);
-    let z = limit_of(text, pool, table, loops, t, c);
+    let h = n.child(1);
+    let g = h.child(1);
+    let t = type_of_name(vars, h.place());
+    let x = limit_of(vars, loops, t, g.child(1));
+    let y = limit_of(vars, loops, t, g.child(2));
+    let z = limit_of(vars, loops, t, h.child(2));
     let l = both(both(x, y), z);
-    or_else(l.first, unless(l.good, word(pool, i, 3)))
+    of_rule(l.first, l.good, n.place())
 }
 
 // ---- labels
 
 // A number of a label.
-fn bound_fault(pool: &[u16], t: Ty, i: usize) -> usize
-    requires { 4 * i + 4 ≤ length pool.now }
-    ensures { result ≡ unless_of (Y.fits t (whole_at pool.now i)) (place_at pool.now i) }
+fn bound_fault(t: Ty, n: Node) -> Option<usize>
+    ensures { result ≡ then_some (not (Y.fits t (whole_at n.entry.pool.now n.entry.at))) (place_at n.entry.pool.now n.entry.at) }
 {
-    unless(fits(t, whole(pool, i)), word(pool, i, 3))
+    (!fits(t, n.whole())).then_some(n.place() as usize)
 }
 
-fn label(pool: &[u16], t: Ty, i: usize) -> usize
-    requires { 4 * i + 4 ≤ length pool.now }
-    ensures { result ≡ soonest (T.label_faults t (label_at pool.now i)) }
+#[tactic(auto, using(faults::proofs::Soonest::soonest_steps))]
+fn label(t: Ty, n: Node) -> Option<usize>
+    ensures { result ≡ soonest (T.label_faults t (label_at n.entry.pool.now n.entry.at)) }
 {
-    if word(pool, i, 0) == 31 {
-        let x = bound_fault(pool, t, child(pool, i, 1));
-        let y = bound_fault(pool, t, child(pool, i, 2));
+    if n.is_range() {
+        let x = bound_fault(t, n.child(1));
+        let y = bound_fault(t, n.child(2));
         return sooner_of(x, y);
     }
-    bound_fault(pool, t, i)
+    bound_fault(t, n)
 }
 
 // The labels at a node, where the selector has the type `t`.
-fn labels(pool: &[u16], t: Ty, i: usize, best: usize) -> usize
-    requires { 4 * i + 4 ≤ length pool.now }
-    ensures { result ≡ sooner best (soonest (T.labels_faults (some t) (labels_at pool.now i))) }
+#[tactic(auto, using(crate::proofs::Owns::labels_none, crate::proofs::Owns::labels_more))]
+fn labels(t: Ty, n: Node, best: Option<usize>) -> Option<usize>
+    ensures { result ≡ sooner best (soonest (T.labels_faults (some t) (labels_at n.entry.pool.now n.entry.at))) }
 {
-    if i == 0 {
+    if n.at == 0 {
         return best;
     }
-    let x = label(pool, t, child(pool, i, 2));
-    labels(pool, t, child(pool, i, 1), sooner_of(best, x))
+    let x = label(t, n.child(2));
+    labels(t, n.child(1), sooner_of(best, x))
 }
 
 // Those of a faulty selector aren't judged.
-fn labels_of(pool: &[u16], s: Selector, i: usize, best: usize) -> usize
-    requires { 4 * i + 4 ≤ length pool.now }
-    ensures { result ≡ sooner best (soonest (T.labels_faults (heard s) (labels_at pool.now i))) }
+fn labels_of(s: Settled, n: Node, best: Option<usize>) -> Option<usize>
+    ensures { result ≡ sooner best (soonest (T.labels_faults (heard s) (labels_at n.entry.pool.now n.entry.at))) }
 {
-    if s.first == 0 {
-        let t = s.ty;
-        return labels(pool, t, i, best);
+    match s.first {
+        None => labels(s.ty, n, best),
+        Some(_) => best,
     }
-    best
 }
 
 // ---- statements
 
 // The faults of the statements at a node, `depth` FORs being around.
 #[cycle(walk)]
+#[tactic(auto, using(crate::proofs::Fronts::walk_none, crate::proofs::Fronts::walk_assign))]
 pub fn statements(
-    text: &[u8],
-    pool: &[u16],
-    table: &[u16],
+    vars: Variables,
     loops: &mut [u16],
     depth: usize,
-    i: usize,
-    best: usize,
-) -> usize
-    requires { (4 * i + 4 ≤ length pool.now) × (depth + i ≤ length loops.old) }
-    ensures { Walks text.now pool.now table.now loops.old loops.new depth (front_at text.now pool.now i) best result }
+    n: Node,
+    best: Option<usize>,
+) -> Option<usize>
+    requires { depth + n.at ≤ length loops.old }
+    ensures { Walks vars.entry.text.now vars.entry.pool.now vars.entry.table.now loops.old loops.new depth
+        (front_at vars.entry.text.now n.entry.pool.now n.entry.at) best result }
 {
-    if i == 0 {
-        return best;
+    match n.statement() {
+        Statement::Nothing => best,
+        Statement::Assignment => sooner_of(best, assignment(vars, &loops[..depth], n)),
+        Statement::Choice => choice(vars, loops, depth, n, best),
+        Statement::Selection => selection(vars, loops, depth, n, best),
+        Statement::Loop => repeat(vars, loops, depth, n, best),
+        Statement::List => {
+            let x = statements(vars, loops, depth, n.child(2), best);
+            statements(vars, loops, depth, n.child(1), x)
+        }
     }
-    let k = word(pool, i, 0);
-    if k < 41 {
-        return sooner_of(best, assignment(text, pool, table, &loops[..depth], i));
-    }
-    if k == 41 {
-        return choice(text, pool, table, loops, depth, i, best);
-    }
-    if k == 42 {
-        return selection(text, pool, table, loops, depth, i, best);
-    }
-    if k == 43 {
-        return repeat(text, pool, table, loops, depth, i, best);
-    }
-    if k == 44 {
-        let x = statements(text, pool, table, loops, depth, child(pool, i, 2), best);
-        return statements(text, pool, table, loops, depth, child(pool, i, 1), x);
-    }
-    best
 }
 
 // IF: its condition and both lists.
 #[cycle(walk)]
 fn choice(
-    text: &[u8],
-    pool: &[u16],
-    table: &[u16],
+    vars: Variables,
     loops: &mut [u16],
     depth: usize,
-    i: usize,
-    best: usize,
-) -> usize
-    requires { (0 < i) × (4 * i + 4 ≤ length pool.now) × (depth + i ≤ length loops.old) }
-    ensures { Walks text.now pool.now table.now loops.old loops.new depth (choice_front text.now pool.now i) best result }
+    n: Node,
+    best: Option<usize>,
+) -> Option<usize>
+    requires { (0 < n.at) × (depth + n.at ≤ length loops.old) }
+    ensures { Walks vars.entry.text.now vars.entry.pool.now vars.entry.table.now loops.old loops.new depth
+        (choice_front vars.entry.text.now n.entry.pool.now n.entry.at) best result }
 {
-    let j = child(pool, i, 2);
-    let a = child(pool, j, 1);
-    let b = child(pool, j, 2);
-    let c = condition(text, pool, table, &loops[..depth], i);
-    let x = statements(text, pool, table, loops, depth, a, sooner_of(best, c));
-    statements(text, pool, table, loops, depth, b, x)
+    let lists = n.child(2);
+    let c = condition(vars, &loops[..depth], n);
+    let x = statements(vars, loops, depth, lists.child(1), sooner_of(best, c));
+    statements(vars, loops, depth, lists.child(2), x)
 }
 
 // CASE: its selector and its arms.
 #[cycle(walk)]
 fn selection(
-    text: &[u8],
-    pool: &[u16],
-    table: &[u16],
+    vars: Variables,
     loops: &mut [u16],
     depth: usize,
-    i: usize,
-    best: usize,
-) -> usize
-    requires { (0 < i) × (4 * i + 4 ≤ length pool.now) × (depth + i ≤ length loops.old) }
-    ensures { Walks text.now pool.now table.now loops.old loops.new depth (select_front text.now pool.now i) best result }
+    n: Node,
+    best: Option<usize>,
+) -> Option<usize>
+    requires { (0 < n.at) × (depth + n.at ≤ length loops.old) }
+    ensures { Walks vars.entry.text.now vars.entry.pool.now vars.entry.table.now loops.old loops.new depth
+        (select_front vars.entry.text.now n.entry.pool.now n.entry.at) best result }
 {
-    let b = child(pool, i, 2);
-    let s = selector_of(text, pool, table, &loops[..depth], i);
+    let s = selector_of(vars, &loops[..depth], n);
     let x = sooner_of(best, s.first);
-    arms(text, pool, table, loops, depth, b, s, x)
+    arms(vars, loops, depth, n.child(2), s, x)
 }
 
 // FOR: its head, and its body with one FOR more around.
 #[cycle(walk)]
 fn repeat(
-    text: &[u8],
-    pool: &[u16],
-    table: &[u16],
+    vars: Variables,
     loops: &mut [u16],
     depth: usize,
-    i: usize,
-    best: usize,
-) -> usize
-    requires { (0 < i) × (4 * i + 4 ≤ length pool.now) × (depth + i ≤ length loops.old) }
-    ensures { Walks text.now pool.now table.now loops.old loops.new depth (loop_front text.now pool.now i) best result }
+    n: Node,
+    best: Option<usize>,
+) -> Option<usize>
+    requires { (0 < n.at) × (depth + n.at ≤ length loops.old) }
+    ensures { Walks vars.entry.text.now vars.entry.pool.now vars.entry.table.now loops.old loops.new depth
+        (loop_front vars.entry.text.now n.entry.pool.now n.entry.at) best result }
 {
-    let a = child(pool, i, 1);
-    let b = child(pool, i, 2);
-    let h = head(text, pool, table, &loops[..depth], i);
+    let h = head(vars, &loops[..depth], n);
     let x = sooner_of(best, h);
-    let v = word(pool, a, 3);
+    let v = n.child(1).place();
     loops[depth] = v;
-    statements(text, pool, table, loops, depth + 1, b, x)
+    statements(vars, loops, depth + 1, n.child(2), x)
 }
 
 // The arms of a CASE and its ELSE list.
 #[cycle(walk)]
+#[tactic(auto, using(crate::proofs::Fronts::no_arms_lem))]
 fn arms(
-    text: &[u8],
-    pool: &[u16],
-    table: &[u16],
+    vars: Variables,
     loops: &mut [u16],
     depth: usize,
-    i: usize,
-    s: Selector,
-    best: usize,
-) -> usize
-    requires { (4 * i + 4 ≤ length pool.now) × (depth + i ≤ length loops.old) }
-    ensures { WalksArms text.now pool.now table.now loops.old loops.new depth i s best result }
+    n: Node,
+    s: Settled,
+    best: Option<usize>,
+) -> Option<usize>
+    requires { depth + n.at ≤ length loops.old }
+    ensures { WalksArms vars.entry.text.now vars.entry.pool.now vars.entry.table.now loops.old loops.new depth
+        (arms_at vars.entry.text.now n.entry.pool.now n.entry.at) s best result }
 {
-    if i == 0 {
-        return best;
+    match n.arms() {
+        Arms::Nothing => best,
+        Arms::Otherwise => statements(vars, loops, depth, n.child(1), best),
+        Arms::Arm => {
+            let x = labels_of(s, n.child(1), best);
+            let y = statements(vars, loops, depth, n.child(2), x);
+            arms(vars, loops, depth, n.child(3), s, y)
+        }
     }
-    let k = word(pool, i, 0);
-    if k == 49 {
-        return statements(text, pool, table, loops, depth, child(pool, i, 1), best);
-    }
-    if 49 < k {
-        return best;
-    }
-    let x = labels_of(pool, s, child(pool, i, 1), best);
-    let y = statements(text, pool, table, loops, depth, child(pool, i, 2), x);
-    arms(text, pool, table, loops, depth, child(pool, i, 3), s, y)
 }

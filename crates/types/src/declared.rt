@@ -1,90 +1,83 @@
 // Refusal 6 of declarations: bounds that are no DINT, a declared value of another type.
-ghost use Rattle.std.specs.Prelude.{◌≡◌, ◌+◌, ◌*◌, ◌≤◌, pos, length};
+ghost use Rattle.std.specs.Prelude.{◌≡◌, not, pos};
+ghost use Rattle.std.specs.Bool.{then_some};
 ghost use Rattle.paper.specs.declared.Ty.TheVariants.{Dint as DINT};
 ghost use Rattle.paper.specs.Types as Y;
 ghost use Rattle.paper.specs.Typing as T;
 ghost use Rattle.tree.specs.Trees.{wide, place_at, bounds_at, initial_at};
-ghost use Rattle.faults.specs.Soonest.{soonest, unless_of};
+ghost use Rattle.faults.specs.Soonest.{soonest};
 ghost use Rattle.types.specs.Statements.{value_at, IsDeclaration, IsDeclarations};
 
 use crate::parts::{for_numbers, is_integer};
-use faults::{sooner_of, unless, with_fault};
+use faults::sooner_of;
 use paper::Ty;
-use tree::{child, kind, whole, wide_at, word};
+use tree::kinds::Initial;
+use tree::node::Node;
 use value::fits;
-use variables::type_of;
+use variables::declared::{bounds_of, type_of};
 
 // A bound of an array.
-fn bound(pool: &[u16], i: usize) -> usize
-    requires { 4 * i + 4 ≤ length pool.now }
-    ensures { result ≡ unless_of (Y.fits DINT (pos (wide pool.now i))) (place_at pool.now i) }
+fn bound(n: Node) -> Option<usize>
+    ensures { result ≡ then_some (not (Y.fits DINT (pos (wide n.entry.pool.now n.entry.at)))) (place_at n.entry.pool.now n.entry.at) }
 {
-    unless(fits(Ty::Dint, wide_at(pool, i) as i64), word(pool, i, 3))
+    (!fits(Ty::Dint, n.wide() as i64)).then_some(n.place() as usize)
 }
 
-fn bounds(pool: &[u16], i: usize) -> usize
-    requires { 4 * i + 4 ≤ length pool.now }
-    ensures { result ≡ soonest (T.bounds_faults (bounds_at pool.now i)) }
+#[tactic(auto, using(faults::proofs::Soonest::soonest_steps))]
+fn bounds(n: Node) -> Option<usize>
+    ensures { result ≡ soonest (T.bounds_faults (bounds_at n.entry.pool.now n.entry.at)) }
 {
-    if kind(pool, i) != 34 {
-        return 0;
+    if !n.is_bounds() {
+        return None;
     }
-    let x = bound(pool, child(pool, i, 1));
-    let y = bound(pool, child(pool, i, 2));
+    let x = bound(n.child(1));
+    let y = bound(n.child(2));
     sooner_of(x, y)
 }
 
 // A declared number that doesn't fit, else the wrong kind at `:=`.
-fn number(pool: &[u16], t: Ty, i: usize) -> usize
-    requires { 4 * i + 4 ≤ length pool.now }
-    ensures { result ≡ soonest (T.initial_faults t (value_at pool.now i)) }
+#[tactic(auto, using(faults::proofs::Soonest::soonest_steps))]
+fn number(t: Ty, n: Node) -> Option<usize>
+    ensures { result ≡ soonest (T.initial_faults t (value_at n.entry.pool.now n.entry.at)) }
 {
-    let n = child(pool, i, 1);
-    if fits(for_numbers(t), whole(pool, n)) {
-        return unless(is_integer(t), word(pool, i, 3));
+    let number = n.child(1);
+    if fits(for_numbers(t), number.whole()) {
+        return (!is_integer(t)).then_some(n.place() as usize);
     }
-    with_fault(0, word(pool, n, 3))
+    Some(number.place() as usize)
 }
 
-fn initial(pool: &[u16], t: Ty, i: usize) -> usize
-    requires { 4 * i + 4 ≤ length pool.now }
-    ensures { result ≡ soonest (T.initial_faults t (initial_at pool.now i)) }
+#[tactic(auto, using(faults::proofs::Soonest::soonest_steps))]
+fn initial(t: Ty, n: Node) -> Option<usize>
+    ensures { result ≡ soonest (T.initial_faults t (initial_at n.entry.pool.now n.entry.at)) }
 {
-    let k = kind(pool, i);
-    if k < 35 {
-        return 0;
+    match n.initial() {
+        Initial::Nothing => None,
+        Initial::Value => number(t, n),
+        Initial::Flag(_) => is_integer(t).then_some(n.place() as usize),
     }
-    if 37 < k {
-        return 0;
-    }
-    if k == 35 {
-        return number(pool, t, i);
-    }
-    unless(!is_integer(t), word(pool, i, 3))
 }
 
-// The declaration at the node `j`, whose names share their faults.
-fn declaration(pool: &[u16], j: usize, best: usize) -> usize
-    requires { 4 * j + 4 ≤ length pool.now }
-    ensures { IsDeclaration pool.now j best result }
+// The declaration at a node, whose names share their faults.
+#[tactic(auto, using(crate::proofs::Declares::nothing_declared, crate::proofs::Declares::one_declared))]
+fn declaration(n: Node, best: Option<usize>) -> Option<usize>
+    ensures { IsDeclaration n.entry.pool.now n.entry.at best result }
 {
-    if child(pool, j, 1) == 0 {
+    if n.child(1).at == 0 {
         return best;
     }
-    let n = child(pool, j, 2);
-    let b = bounds(pool, child(pool, n, 1));
-    let v = initial(pool, type_of(pool, j), child(pool, n, 2));
+    let b = bounds(bounds_of(n));
+    let v = initial(type_of(n), n.child(2).child(2));
     sooner_of(best, sooner_of(b, v))
 }
 
-// All declarations, from the node `d` on.
-pub fn declarations(pool: &[u16], d: usize, best: usize) -> usize
-    requires { 4 * d + 4 ≤ length pool.now }
-    ensures { IsDeclarations pool.now d best result }
+// All declarations, from the node `n` on.
+pub fn declarations(n: Node, best: Option<usize>) -> Option<usize>
+    ensures { IsDeclarations n.entry.pool.now n.entry.at best result }
 {
-    if d == 0 {
+    if n.at == 0 {
         return best;
     }
-    let x = declaration(pool, child(pool, d, 2), best);
-    declarations(pool, child(pool, d, 1), x)
+    let x = declaration(n.child(2), best);
+    declarations(n.child(1), x)
 }

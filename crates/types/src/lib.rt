@@ -7,7 +7,8 @@ ghost use Rattle.types.specs.Statements.{faults_at};
 
 use crate::body::statements;
 use crate::declared::declarations;
-use tree::child;
+use tree::node::node_at;
+use variables::listed::listed;
 
 mod body;
 mod declared;
@@ -21,12 +22,11 @@ pub fn first_bad_type(
     table: &[u16],
     root: usize,
     loops: &mut [u16],
-) -> usize
+) -> Option<usize>
     requires { (4 * root + 4 ≤ length pool.now) × (root ≤ length loops.old) }
     ensures { (result ≡ soonest (faults_at text.now pool.now table.now root)) × (length loops.new ≡ length loops.old) }
 {
-    let d = child(pool, root, 1);
-    let b = child(pool, root, 2);
-    let x = declarations(pool, d, 0);
-    statements(text, pool, table, loops, 0, b, x)
+    let program = node_at(pool, root);
+    let x = declarations(program.child(1), None);
+    statements(listed(text, pool, table), loops, 0, program.child(2), x)
 }

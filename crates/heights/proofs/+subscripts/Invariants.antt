@@ -1,4 +1,4 @@
 use Rattle.heights.proofs.+subscripts.Given as goal
 
 abbrev pub decreases-subscripts : goal.decreases-subscripts
-decreases-subscripts l = l.i
+decreases-subscripts l = l.n.at

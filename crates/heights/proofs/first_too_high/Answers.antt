@@ -1,8 +1,9 @@
 -- `heights::first_too_high` meets its contract.
+use Rattle.std.specs.Prelude.{None}
 use Rattle.heights.proofs.Lists.{program_listed}
 use Rattle.heights.proofs.first_too_high.Goals as goal
 
 pub returns : goal.returns
 returns c =
-    let A = c.args in
-    program_listed 0 _ A.pool.now A.root (rw c.child.ensures at c.statements.ensures)
+    program_listed None _ c.args.pool.now c.args.root
+    (rw (c.child.ensures.0, c.child.ensures.1, c.node_at.ensures.0, c.node_at.ensures.1) at c.statements.ensures)

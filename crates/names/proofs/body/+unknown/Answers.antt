@@ -1,53 +1,35 @@
--- The proof of the cycle of calls {unknown}. The measure is the node: a child is an earlier one.
-use mathlib.Core.Path.{sym}
-use native.Mathlib.Omega.{arith}
-use Rattle.names.proofs.After.{after_none, after_append, after_swap}
-use Rattle.names.proofs.Exprs.{nil_unknown, leaf_unknown, other_unknown, variable_unknown, element_unknown, unary_unknown, binary_unknown}
+-- The measure is the node: a child is an earlier one.
+use Rattle.names.proofs.After.{alone, then, before}
+use Rattle.names.proofs.Exprs.{leaf_unknown, variable_unknown, element_unknown, unary_unknown, binary_unknown}
 use Rattle.names.proofs.body.+unknown.Goals as goal
 
-pub returns-then-i-eq0 : goal.returns-then-i-eq0
-returns-then-i-eq0 t c =
+pub returns-in-Variable : goal.returns-in-Variable
+returns-in-Variable t c =
     let A = c.args in
-    rw (c.if-i-eq0.true, nil_unknown A.text.now A.pool.now A.table.now) (sym (after_none A.best))
+    alone A.best _ _ _ (rw c.place.ensures at c.known.ensures) (variable_unknown _ A.vars.text.now A.n.pool.now A.n.at c.in-Variable.ensures)
 
-pub returns-then-k-lt5 : goal.returns-then-k-lt5
-returns-then-k-lt5 t c =
+pub returns-in-Element : goal.returns-in-Element
+returns-in-Element t c =
     let A = c.args in
-    rw (leaf_unknown A.text.now A.pool.now A.table.now A.i (omega arith) (omega arith)) (sym (after_none A.best))
+    then A.best _ _ _ _ _ (rw c.place-in-Element.ensures at c.known-x.ensures) (rw (c.child.ensures.0, c.child.ensures.1) at c.unknown.ensures)
+    (element_unknown _ A.vars.text.now A.n.pool.now A.n.at c.in-Element.ensures)
 
-pub returns-then-k-gt24 : goal.returns-then-k-gt24
-returns-then-k-gt24 t c =
+pub returns-in-Minus : goal.returns-in-Minus
+returns-in-Minus t c =
     let A = c.args in
-    rw (other_unknown A.text.now A.pool.now A.table.now A.i (omega arith) (omega arith)) (sym (after_none A.best))
+    alone A.best _ _ _ (rw (c.child-in-Minus.ensures.0, c.child-in-Minus.ensures.1) at c.unknown-in-Minus.ensures)
+    (unary_unknown _ A.vars.text.now A.n.pool.now A.n.at _ c.expression.ensures c.in-Minus.is)
 
-pub returns-then-k-eq5 : goal.returns-then-k-eq5
-returns-then-k-eq5 t c =
+pub returns-in-Binary : goal.returns-in-Binary
+returns-in-Binary t c =
     let A = c.args in
-    rw (variable_unknown A.text.now A.pool.now A.table.now A.i (omega arith) (omega arith), ← c.word.ensures) (c.known-x.ensures A.pool.now)
+    before A.best _ _ _ _ _ (rw (c.child-in-Binary.ensures.0, c.child-in-Binary.ensures.1) at c.unknown-x.ensures)
+    (rw (c.child-in-Binary-2.ensures.0, c.child-in-Binary-2.ensures.1) at c.unknown-in-Binary.ensures)
+    (binary_unknown _ A.vars.text.now A.n.pool.now A.n.at _ c.in-Binary.ensures)
 
-pub returns-then-k-lt7 : goal.returns-then-k-lt7
-returns-then-k-lt7 t c =
+pub returns-in_default : goal.returns-in_default
+returns-in_default t c =
     let A = c.args in
-    rw (
-      element_unknown A.text.now A.pool.now A.table.now A.i (omega arith) (omega arith),
-      after_append,
-      ← c.word.ensures,
-      ← c.known-x.ensures A.pool.now,
-      ← c.child-a.ensures,
-    ) c.unknown.ensures
-
-pub returns-then-k-lt11 : goal.returns-then-k-lt11
-returns-then-k-lt11 t c =
-    let A = c.args in
-    rw (unary_unknown A.text.now A.pool.now A.table.now A.i (omega arith) (omega arith) (omega arith), ← c.child-a.ensures) c.unknown-then-k-lt11.ensures
-
-pub returns : goal.returns
-returns t c =
-    let A = c.args in
-    rw (
-      binary_unknown A.text.now A.pool.now A.table.now A.i (omega arith) (omega arith) (omega arith),
-      after_swap,
-      ← c.child.ensures,
-      ← c.unknown-b.ensures,
-      ← c.child-a.ensures,
-    ) c.unknown-2.ensures
+    let d = c.in_default in
+    leaf_unknown _ A.vars.text.now A.n.pool.now A.n.at A.best _ c.expression.ensures
+    d.not-Variable d.not-Element d.not-Minus d.not-Complement d.not-Brackets d.not-Conversion d.not-Binary

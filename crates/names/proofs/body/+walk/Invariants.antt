@@ -2,13 +2,13 @@ use Prim.Native.Nat.{◌+◌, ◌*◌}
 use Rattle.names.proofs.body.+walk.Given as goal
 
 abbrev pub decreases-arms : goal.decreases-arms
-decreases-arms l = 2 * l.i + 1
+decreases-arms l = 2 * l.n.at + 1
 
 abbrev pub decreases-branches : goal.decreases-branches
-decreases-branches l = 2 * l.j + 2
+decreases-branches l = 2 * l.n.at + 2
 
 abbrev pub decreases-repeat : goal.decreases-repeat
-decreases-repeat l = 2 * l.b + 2
+decreases-repeat l = 2 * l.n.at
 
 abbrev pub decreases-statements : goal.decreases-statements
-decreases-statements l = 2 * l.i + 1
+decreases-statements l = 2 * l.n.at + 1

@@ -1,18 +1,13 @@
 -- `names::body::can_loop` meets its contract.
-use mathlib.Core.Path.{sym, ap, ◌∙◌}
-use native.Mathlib.Omega.{arith}
-use Rattle.names.specs.Walks.{loopable}
+use mathlib.Core.Path.{◌∙◌}
 use Rattle.names.proofs.Lookups.{loop_found, loop_missing}
 use Rattle.names.proofs.body.can_loop.Goals as goal
 
-pub returns-then-v-table : goal.returns-then-v-table
-returns-then-v-table c =
+pub returns-in-Some : goal.returns-in-Some
+returns-in-Some c =
     let A = c.args in
-    c.runs.ensures
-    ∙ ap (loopable A.pool.now) c.declaration_of.ensures.0
-    ∙ sym (loop_found A.text.now A.pool.now A.table.now A.place _ c.find-v.ensures (omega arith))
+    (rw (c.declaration.ensures.0, c.declaration.ensures.1) at c.runs.ensures)
+    ∙ loop_found A.vars.text.now A.vars.pool.now A.vars.table.now A.place _ c.in-Some.ensures
 
-pub returns : goal.returns
-returns c =
-    let A = c.args in
-    sym (loop_missing A.text.now A.pool.now A.table.now A.place _ c.find-v.ensures (omega arith))
+pub returns-in-None : goal.returns-in-None
+returns-in-None c = let A = c.args in loop_missing A.vars.text.now A.vars.pool.now A.vars.table.now A.place c.in-None.ensures

@@ -1,23 +1,19 @@
 -- `names::body::is_input` meets its contract.
-use mathlib.Core.Path.{sym, ap, ◌∙◌}
-use native.Mathlib.Omega.{arith}
-use lib.Dec.{eqb}
+use mathlib.Core.Path.{ap, ◌∙◌}
 use Rattle.paper.specs.declared.Kind.TheVariants.{Input}
 use Rattle.paper.specs.Names.{same_kind}
-use Rattle.variables.specs.Table.{section_at}
-use Rattle.names.proofs.Lookups.{input_found, input_missing, input_section}
+use Rattle.names.proofs.Nodes.{same_kinds}
+use Rattle.names.proofs.Lookups.{input_found, input_missing}
 use Rattle.names.proofs.body.is_input.Goals as goal
 
-pub returns-then-v-table : goal.returns-then-v-table
-returns-then-v-table c =
+pub returns-in-Some : goal.returns-in-Some
+returns-in-Some c =
     let A = c.args in
-    let p = A.pool.now in
-    ap (λ n. eqb n 0) c.section_of.ensures
-    ∙ input_section (section_at p c.declaration_of.result)
-    ∙ ap (λ j. same_kind Input (section_at p j)) c.declaration_of.ensures.0
-    ∙ sym (input_found A.text.now p A.table.now A.place _ c.find-v.ensures (omega arith))
+    let section = rw (c.declaration.ensures.0, c.declaration.ensures.1) at c.section_of.ensures in
+    c.eq.ensures
+    ∙ same_kinds c.section_of.result Input
+    ∙ ap (same_kind Input) section
+    ∙ input_found A.vars.text.now A.vars.pool.now A.vars.table.now A.place _ c.in-Some.ensures
 
-pub returns : goal.returns
-returns c =
-    let A = c.args in
-    sym (input_missing A.text.now A.pool.now A.table.now A.place _ c.find-v.ensures (omega arith))
+pub returns-in-None : goal.returns-in-None
+returns-in-None c = let A = c.args in input_missing A.vars.text.now A.vars.pool.now A.vars.table.now A.place c.in-None.ensures

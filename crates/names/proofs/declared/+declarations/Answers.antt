@@ -3,18 +3,20 @@ use native.Mathlib.Omega.{arith}
 use Rattle.names.proofs.Declaring.{no_declarations, declarations_more}
 use Rattle.names.proofs.declared.+declarations.Goals as goal
 
-pub returns-then-d-eq0 : goal.returns-then-d-eq0
-returns-then-d-eq0 t c =
+pub returns-then-n-eq0 : goal.returns-then-n-eq0
+returns-then-n-eq0 t c =
     let A = c.args in
-    (omega arith, rw c.if-d-eq0.true (no_declarations A.text.now A.pool.now A.seen.now A.s))
+    (omega arith, rw c.if-n-eq0.true (no_declarations A.text.now A.n.pool.now A.seen.now A.s))
 
 pub returns : goal.returns
 returns t c =
     let A = c.args in
     let x = c.declarations-r in
-    let r = c.names in (
+    let r = c.names in
+    let node = c.child-declaration.ensures in (
       omega (arith, r.ensures.0, x.auto.seen),
-      declarations_more A.text.now A.pool.now A.seen.now _ _ A.d _ _ _ _ A.s x.result r.result (omega (arith, c))
-          c.child.ensures c.child-j.ensures c.child-2.ensures c.size_of-size.ensures
-          x.auto.seen x.ensures.1 r.ensures.1,
+      declarations_more A.text.now A.n.pool.now A.seen.now _ _ A.n.at _ A.s x.result r.result (omega (arith, c))
+          (rw (node.0, node.1) at c.size_of-size.ensures) x.auto.seen
+          (rw (c.child.ensures.0, c.child.ensures.1) at x.ensures.1)
+          (rw (c.child-2.ensures.0, c.child-2.ensures.1, node.0, node.1) at r.ensures.1),
     )

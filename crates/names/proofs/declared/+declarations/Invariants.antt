@@ -1,4 +1,4 @@
 use Rattle.names.proofs.declared.+declarations.Given as goal
 
 abbrev pub decreases-declarations : goal.decreases-declarations
-decreases-declarations l = l.d
+decreases-declarations l = l.n.at

@@ -1,4 +1,4 @@
 use Rattle.names.proofs.table.+add_kind.Given as goal
 
 abbrev pub decreases-add_kind : goal.decreases-add_kind
-decreases-add_kind l = l.d
+decreases-add_kind l = l.n.at

@@ -2,7 +2,7 @@
 use Rattle.types.proofs.Owns.{labels_unheard}
 use Rattle.types.proofs.body.labels_of.Goals as goal
 
-pub returns : goal.returns
-returns c =
+pub returns-in-Some : goal.returns-in-Some
+returns-in-Some c =
     let A = c.args in
-    labels_unheard A.pool.now A.s A.i A.best c.if-s-eq0.false
+    rw c.in-Some.is (labels_unheard A.n.pool.now A.n.at A.best)

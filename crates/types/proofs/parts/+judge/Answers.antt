@@ -1,50 +1,44 @@
--- The proof of the cycle of calls {judge}. The measure is the node: a child is an earlier one.
--- Assumes nothing.
-use native.Mathlib.Omega.{arith}
-use borrow.Author.Tests.{ltb-false}
-use Rattle.tree.specs.Nodes.{child_of}
-use Rattle.types.specs.Says.{JudgedAt}
-use Rattle.types.proofs.Walking.{walk_element, walk_minus, walk_complement, walk_brackets, walk_conversion, walk_binary}
+-- The measure is the node: a child is an earlier one.
+use mathlib.Core.Path.{refl}
+use Rattle.types.proofs.Walking.{walk_name, walk_element, walk_minus, walk_complement, walk_conversion, walk_binary}
 use Rattle.types.proofs.parts.+judge.Goals as goal
 
-pub returns-then-k-eq6 : goal.returns-then-k-eq6
-returns-then-k-eq6 t c =
+pub returns-in-Variable : goal.returns-in-Variable
+returns-in-Variable t c =
     let A = c.args in
-    let first : JudgedAt A.text.now A.pool.now A.table.now A.loops.now (child_of A.pool.now A.i 1) c.judge-x.result = rw c.child-a.ensures at c.judge-x.ensures in
-    walk_element A.text.now A.pool.now A.table.now A.i _ c.kind-k.ensures A.loops.now c.judge-x.result c.element.result (first) c.if-k-eq6.true
-    (rw c.child-a.ensures at c.element.ensures)
+    walk_name _ A.vars.text.now A.loops.now A.n.pool.now A.n.at _ c.in-Variable.ensures ((rw c.place.ensures at c.named.ensures) refl)
 
-pub returns-then-k-eq7 : goal.returns-then-k-eq7
-returns-then-k-eq7 t c =
+pub returns-in-Element : goal.returns-in-Element
+returns-in-Element t c =
     let A = c.args in
-    let first : JudgedAt A.text.now A.pool.now A.table.now A.loops.now (child_of A.pool.now A.i 1) c.judge-x.result = rw c.child-a.ensures at c.judge-x.ensures in
-    walk_minus A.text.now A.pool.now A.table.now A.i _ c.kind-k.ensures A.loops.now c.judge-x.result c.negated.result (first) c.if-k-eq7.true
-    (rw c.word.ensures at c.negated.ensures)
+    walk_element _ A.vars.text.now A.loops.now A.n.pool.now A.n.at _ _ (rw (c.child.ensures.0, c.child.ensures.1) at c.judge.ensures)
+    c.in-Element.ensures c.element.ensures
 
-pub returns-then-k-eq8 : goal.returns-then-k-eq8
-returns-then-k-eq8 t c =
+pub returns-in-Minus : goal.returns-in-Minus
+returns-in-Minus t c =
     let A = c.args in
-    let first : JudgedAt A.text.now A.pool.now A.table.now A.loops.now (child_of A.pool.now A.i 1) c.judge-x.result = rw c.child-a.ensures at c.judge-x.ensures in
-    walk_complement A.text.now A.pool.now A.table.now A.i _ c.kind-k.ensures A.loops.now c.judge-x.result c.complement.result (first) c.if-k-eq8.true
-    (rw (c.word-then-k-eq8.ensures, c.child-a.ensures) at c.complement.ensures)
+    let at = c.child-in-Minus.ensures in
+    walk_minus _ A.vars.text.now A.loops.now A.n.pool.now A.n.at _ _ (rw (at.0, at.1) at c.judge-in-Minus.ensures)
+    c.in-Minus.ensures (rw c.place-in-Minus.ensures at c.negated.ensures)
 
-pub returns-then-k-eq9 : goal.returns-then-k-eq9
-returns-then-k-eq9 t c =
+pub returns-in-Complement : goal.returns-in-Complement
+returns-in-Complement t c =
     let A = c.args in
-    let first : JudgedAt A.text.now A.pool.now A.table.now A.loops.now (child_of A.pool.now A.i 1) c.judge-x.result = rw c.child-a.ensures at c.judge-x.ensures in
-    walk_brackets A.text.now A.pool.now A.table.now A.i _ c.kind-k.ensures A.loops.now c.judge-x.result c.judge-x.result c.if-k-eq9.true (first)
+    let at = c.child-in-Complement.ensures in
+    walk_complement _ A.vars.text.now A.loops.now A.n.pool.now A.n.at _ _ (rw (at.0, at.1) at c.judge-in-Complement.ensures)
+    c.in-Complement.ensures c.complement.ensures
 
-pub returns-then-k-eq10 : goal.returns-then-k-eq10
-returns-then-k-eq10 t c =
+pub returns-in-Conversion : goal.returns-in-Conversion
+returns-in-Conversion t c =
     let A = c.args in
-    let first : JudgedAt A.text.now A.pool.now A.table.now A.loops.now (child_of A.pool.now A.i 1) c.judge-x.result = rw c.child-a.ensures at c.judge-x.ensures in
-    walk_conversion A.text.now A.pool.now A.table.now A.i _ c.kind-k.ensures A.loops.now c.judge-x.result c.converted.result (first) c.if-k-eq10.true
-    (rw c.child-a.ensures at c.converted.ensures)
+    let at = c.child-in-Conversion.ensures in
+    walk_conversion _ A.vars.text.now A.loops.now A.n.pool.now A.n.at _ _ (rw (at.0, at.1) at c.judge-x.ensures)
+    _ _ c.in-Conversion.ensures c.converted.ensures
 
-pub returns : goal.returns
-returns t c =
+pub returns-in-Binary : goal.returns-in-Binary
+returns-in-Binary t c =
     let A = c.args in
-    let first : JudgedAt A.text.now A.pool.now A.table.now A.loops.now (child_of A.pool.now A.i 1) c.judge-x.result = rw c.child-a.ensures at c.judge-x.ensures in
-    let k = c.kind-k.result in
-    walk_binary A.text.now A.pool.now A.table.now A.i _ c.kind-k.ensures A.loops.now c.judge-x.result c.joined.result (first) (omega arith) (omega (arith, ltb-false 24 k c.if-k-gt24.false-raw))
-    c.judge-y.result (rw c.child.ensures at c.judge-y.ensures) c.joined.ensures
+    let left = c.child-in-Binary.ensures in
+    let right = c.child-in-Binary-2.ensures in
+    walk_binary _ A.vars.text.now A.loops.now A.n.pool.now A.n.at _ _ (rw (left.0, left.1) at c.judge-x-in-Binary.ensures)
+    _ c.in-Binary.ensures _ (rw (right.0, right.1) at c.judge-y.ensures) c.joined.ensures

@@ -1,10 +1,12 @@
 -- `types::parts::element` meets its contract.
-use mathlib.Core.Path.{ap, ap₂, ◌∙◌}
+use mathlib.Core.Path.{ap₂, ◌∙◌}
+use mathlib.Core.Bool.{not}
+use Rattle.std.specs.Bool.{then_some}
+use Rattle.std.specs.Option.{option_or}
 use Rattle.paper.specs.declared.Ty.TheVariants.{Dint as DINT}
 use Rattle.paper.specs.Typing as T
 use Rattle.tree.specs.Nodes.{word_of}
-use Rattle.tree.specs.Trees.{expr_at}
-use Rattle.faults.specs.Soonest.{or_else_of, unless_of}
+use Rattle.tree.specs.Kinds.{operand}
 use Rattle.types.specs.Says.{around}
 use Rattle.types.proofs.Judging.{rule_faults}
 use Rattle.types.proofs.parts.element.Goals as goal
@@ -12,11 +14,14 @@ use Rattle.types.proofs.parts.element.Goals as goal
 pub returns : goal.returns
 returns c =
     let A = c.args in
-    let e = expr_at A.text.now A.pool.now A.a in
-    let loops = around A.text.now A.loops.now in
-    let q = word_of A.pool.now A.i 2 in
-    let all = c.or_else.ensures ∙ ap (or_else_of c.settle-s.result.first) (c.unless-own.ensures ∙ ap₂ unless_of c.is_constant.ensures c.word.ensures) in
+    let at = c.child-a.ensures in
+    let e = operand A.n.pool.now A.n.at A.vars.text.now 1 in
+    let loops = around A.vars.text.now A.loops.now in
+    let q = word_of A.n.pool.now A.n.at 2 in
+    let constant = rw (at.0, at.1) at c.is_constant.ensures in
+    let settled = rw (at.0, at.1) at c.settle-s.ensures in
+    let all = c.of_rule-sub.ensures ∙ ap₂ (λ b q. option_or c.settle-s.result.first (then_some (not b) q)) constant c.word.ensures in
     λ j says.
     let s = T.settle DINT e j in
-    (rw c.word-2.ensures at c.named.ensures) (T.subscript_faults loops q e s)
-    (all ∙ rule_faults c.settle-s.result s q (T.is_constant loops e) (c.settle-s.ensures A.text.now j says))
+    (rw c.place.ensures at c.named.ensures) (T.subscript_faults loops q e s)
+    (all ∙ rule_faults c.settle-s.result s q (T.is_constant loops e) (settled A.vars.text.now j says))
