@@ -1,4 +1,3 @@
-pub mod Given
 pub mod Nodes
 pub mod Types
 mod Cells

@@ -1,6 +1,7 @@
--- What the answers stand for: a value, or none where the flag is down.
-use Rattle.std.specs.Prelude.{◌≡◌, Bool, true, false, cond, ◌&&◌, List, ℕ, ◌+◌, ◌-◌, ◌%◌, leb, eqb, ltb, ℤ, get_or}
-use Rattle.std.proofs.Math.Option.{Option, none, some}
+-- What the answers stand for: a value, or none.
+use Rattle.std.specs.Prelude.{◌≡◌, Bool, true, false, cond, ◌&&◌, List, ℕ, ◌+◌, ◌-◌, leb, Option, Some, None, option_map, IfSome}
+use Rattle.std.proofs.Math.Option as Math
+use Rattle.std.proofs.Math.Option.{none, some}
 use Rattle.paper.specs.declared.Ty.{Ty}
 use Rattle.paper.specs.declared.Ty.TheVariants.{Bool as BOOL}
 use Rattle.paper.specs.declared.Op.{Op}
@@ -9,45 +10,51 @@ use Rattle.paper.specs.Source.{Name, Expr}
 use Rattle.paper.specs.Names.{Variable}
 use Rattle.paper.specs.Typing.{type_of_name, type_of, type_in, operand_type}
 use Rattle.paper.specs.Meaning as Meaning
-use Rattle.tree.specs.Trees.{types, expr_at}
-use Rattle.constants.specs.declared.Typed.{Typed}
+use Rattle.paper.specs.Types.{sort_of, gives}
+use Rattle.tree.specs.Trees.{expr_at}
+use Rattle.tree.specs.declared.kinds.Expression.{Expression}
+use Rattle.tree.specs.declared.kinds.Expression.TheVariants as E
 use Rattle.constants.specs.declared.Valued.{Valued}
-use Rattle.constants.specs.declared.Wholed.{Wholed}
 use Rattle.constants.specs.declared.Celled.{Celled}
 
-abbrev pub given : {A : Type 0} → Bool → A → Option A
-given false a = none
-given true a = some a
+-- the definitions' own option
+abbrev pub maybe : {A : Type 0} → Option A → Math.Option A
+maybe None = none
+maybe (Some a) = some a
 
-abbrev pub typed : Typed → Option Ty
-typed x = given x.some x.ty
+abbrev pub valued : Option Valued → Math.Option ℕ
+valued x = maybe (option_map (λ v. v.residue) x)
 
-abbrev pub valued : Valued → Option ℕ
-valued x = given x.some x.residue
-
-abbrev pub wholed : Wholed → Option ℤ
-wholed x = given x.some x.value
-
-abbrev pub celled : Celled → Option Cell
-celled x = given x.some (record { 0 = x.cell })
+abbrev pub celled : Option Celled → Math.Option Cell
+celled x = maybe (option_map (λ c. record { 0 = c.cell }) x)
 
 -- ---- the types of answers
 
 -- the type of what a name has a cell of
-abbrev pub OfName : List Variable → Name → Bool → Ty → Type 0
-OfName vs n b ty = b ≡ true → ty ≡ type_of_name vs n
+abbrev pub OfName : List Variable → Name → Option Celled → Type 0
+OfName vs n x = IfSome x (λ c. c.ty ≡ type_of_name vs n)
 
 -- the type of what has a value or a cell, whatever type is offered
-abbrev pub OfType : List Variable → Expr → Bool → Ty → Type 0
-OfType vs e b ty = b ≡ true → (t : Ty) → ty ≡ type_in vs t e
+abbrev pub OfType : List Variable → Expr → Option Celled → Type 0
+OfType vs e x = IfSome x (λ c. (t : Ty) → c.ty ≡ type_in vs t e)
+
+-- the cell c of a name, if it has one, and its type
+pub record NamedCell (vs : List Variable) (n : Name) (c : Math.Option Cell) (x : Option Celled) : Type 0 where
+  pub cell : celled x ≡ c
+  pub ty : OfName vs n x
+
+-- the cell that an expression stands for, and its type
+pub record CellIn (vs : List Variable) (s : List ℕ) (e : Expr) (x : Option Celled) : Type 0 where
+  pub cell : celled x ≡ Meaning.cell_of vs s e
+  pub ty : OfType vs e x
 
 -- the value of an expression where t is offered, and its type
-pub record ValueIn (vs : List Variable) (s : List ℕ) (t : Ty) (e : Expr) (x : Valued) : Type 0 where
+pub record ValueIn (vs : List Variable) (s : List ℕ) (t : Ty) (e : Expr) (x : Option Valued) : Type 0 where
   pub value : valued x ≡ Meaning.value vs s t e
-  pub ty : x.some ≡ true → x.ty ≡ type_in vs t e
+  pub ty : IfSome x (λ v. v.ty ≡ type_in vs t e)
 
 -- whether there is a type of its own
-abbrev pub is_typed : Option Ty → Bool
+abbrev pub is_typed : Math.Option Ty → Bool
 is_typed none = false
 is_typed (some u) = true
 
@@ -59,16 +66,21 @@ TypedAt p i r = (t : List ℕ) (vs : List Variable) → r ≡ true → is_typed 
 abbrev pub Offers : List Variable → Ty → Op → Expr → Expr → Ty → Type 0
 Offers vs t o l r u = is_typed (type_of vs l) ≡ false → u ≡ operand_type vs t o l r
 
--- the type of a node of kind k, whose word 2 is w, over operands of the type u
-abbrev pub result_at : ℕ → ℕ → Ty → Ty
-result_at k w u = cond (eqb k 8) BOOL (cond (eqb k 10) (get_or types (w % 8) BOOL) (cond (ltb 15 k) BOOL u))
+-- the type of what a node is, over operands of the type u
+abbrev pub result_at : Expression → Ty → Ty
+result_at E.Nothing u = u
+result_at E.Number u = u
+result_at (E.Truth b) u = u
+result_at E.Variable u = u
+result_at E.Element u = u
+result_at E.Minus u = u
+result_at E.Complement u = BOOL
+result_at E.Brackets u = u
+result_at (E.Conversion v w) u = w
+result_at (E.Binary o) u = gives (sort_of o) u
 
 -- ---- parts of the definitions
 
 -- the cell of an array's element n
-abbrev pub cell_between : ℕ → ℕ → ℕ → ℕ → Option Cell
-cell_between first lo hi n = cond (leb lo n && leb n hi) (some (record { 0 = first + (n - lo) })) none
-
--- the value of a leaf, whatever the text, the variables and their cells
-abbrev pub LeafValue : List ℕ → Ty → ℕ → Valued → Type 0
-LeafValue p t i r = (text : List ℕ) (vs : List Variable) (s : List ℕ) → ValueIn vs s t (expr_at text p i) r
+abbrev pub cell_between : ℕ → ℕ → ℕ → ℕ → Math.Option ℕ
+cell_between first lo hi n = cond (leb lo n && leb n hi) (some (first + (n - lo))) none

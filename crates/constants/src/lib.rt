@@ -1,51 +1,38 @@
 // Types of sound expressions, and what can be worked out before the program runs.
-// A text, a pool, a table and what the cells hold are lent to each function; the variables are those that the table lists.
+// The variables of the table and what their cells hold are lent to each function.
 #![tactic(auto)]
 
-ghost use Rattle.std.specs.Prelude.{◌≡◌, true, not, ◌&&◌, ◌+◌, ◌*◌, ◌-◌, ◌≤◌, ◌<◌, pos, length, get_or};
+ghost use Rattle.std.specs.Prelude.{◌≡◌, not, ◌&&◌, ◌-◌, pos, get_or, IfSome};
 ghost use Rattle.std.proofs.Math.Option.{some};
 ghost use Rattle.paper.specs.declared.Ty.TheVariants.{Bool as BOOL};
 ghost use Rattle.paper.specs.declared.Op.TheVariants.{Or};
-ghost use Rattle.paper.specs.Types.{negate, convert, bit, is_true, decode, divides};
+ghost use Rattle.paper.specs.Types.{negate, convert, bit, is_true, decode, divides, sort_of, is_arithmetic};
 ghost use Rattle.paper.specs.Typing.{is_zero, type_of_name, type_of, operand_type};
 ghost use Rattle.paper.specs.Plain as Plain;
-ghost use Rattle.paper.specs.Meaning.{◌>>=◌ as ◌then◌, operate, variable_cell, element_cell, whole_value, cell_of};
-ghost use Rattle.tree.specs.Nodes.{kind_of, child_of};
+ghost use Rattle.paper.specs.Meaning.{operate, variable_cell, element_cell, whole_value};
 ghost use Rattle.tree.specs.Trees.{name_at, operators, expr_at};
+ghost use Rattle.tree.specs.Kinds.{operand, IsExpression};
+ghost use Rattle.tree.specs.declared.kinds.Expression.TheVariants.{Binary};
 ghost use Rattle.variables.specs.Table.{listed_in};
-ghost use Rattle.constants.specs.Answers.{typed, valued, wholed, celled, cell_between, OfName, OfType, ValueIn, TypedAt, Offers, result_at, LeafValue};
+ghost use Rattle.constants.specs.Answers.{maybe, valued, celled, cell_between, NamedCell, CellIn, ValueIn, TypedAt, Offers, result_at};
 
 use paper::{Op, Ty};
-use tree::{child, kind, whole, wide_at, word};
+use tree::kinds::Expression;
+use tree::node::Node;
 use value::{apply, bit_of, converted, is_true, negated, residue_of, value_of};
-use variables::{bounds_of, declaration_of, find, is_array, type_at, type_of};
+use variables::declared::{bounds_of, is_array, type_of};
+use variables::listed::Variables;
 
-// A type, or none for numbers only.
-#[derive(Clone, Copy)]
-pub struct Typed {
-    pub some: bool,
-    pub ty: Ty,
-}
-
-// A residue and the type that it is of, or none where there is no value.
+// A residue and the type that it is of.
 #[derive(Clone, Copy)]
 pub struct Valued {
-    pub some: bool,
     pub residue: u32,
     pub ty: Ty,
 }
 
-// A whole number, or none.
-#[derive(Clone, Copy)]
-pub struct Wholed {
-    pub some: bool,
-    pub value: i64,
-}
-
-// A cell and its variable's type, or none and DINT.
+// A cell and its variable's type.
 #[derive(Clone, Copy)]
 pub struct Celled {
-    pub some: bool,
     pub cell: usize,
     pub ty: Ty,
 }
@@ -53,86 +40,51 @@ pub struct Celled {
 // ---- types
 
 // The declared type of a name, DINT where there is none.
-pub fn type_of_name(text: &[u8], pool: &[u16], table: &[u16], place: u16) -> Ty
-    requires { 4 ≤ length pool.now }
-    ensures { result ≡ type_of_name (listed_in text.now pool.now table.now) (name_at text.now place) }
+pub fn type_of_name(vars: Variables, place: u16) -> Ty
+    ensures { result ≡ type_of_name (listed_in vars.entry.text.now vars.entry.pool.now vars.entry.table.now) (name_at vars.entry.text.now place) }
 {
-    let v = find(text, table, place);
-    if v < table.len() / 4 {
-        return type_of(pool, declaration_of(pool, table, v));
-    }
-    Ty::Dint
-}
-
-// The type of a name or an element, of FALSE, TRUE and nil; a number has none.
-fn leaf_type(text: &[u8], pool: &[u16], table: &[u16], i: usize) -> Typed
-    requires { (4 * i + 4 ≤ length pool.now) × (kind_of pool.now i < 7) }
-    ensures { typed result ≡ type_of (listed_in text.now pool.now table.now) (expr_at text.now pool.now i) }
-{
-    let k = kind(pool, i);
-    if 4 < k {
-        return Typed {
-            some: true,
-            ty: type_of_name(text, pool, table, word(pool, i, 3)),
-        };
-    }
-    if k == 0 {
-        return Typed {
-            some: true,
-            ty: Ty::Bool,
-        };
-    }
-    Typed {
-        some: 2 < k,
-        ty: Ty::Bool,
+    match vars.find(place) {
+        Some(v) => type_of(vars.declaration(v)),
+        None => Ty::Dint,
     }
 }
 
-// The type of the expression at a node.
-pub fn type_of_expression(text: &[u8], pool: &[u16], table: &[u16], i: usize) -> Typed
-    requires { 4 * i + 4 ≤ length pool.now }
-    ensures { typed result ≡ type_of (listed_in text.now pool.now table.now) (expr_at text.now pool.now i) }
+// Whether an operator is arithmetic: its result has the type of its operands.
+fn is_arithmetic(o: Op) -> bool
+    ensures { result ≡ is_arithmetic (sort_of o) }
 {
-    let k = kind(pool, i);
-    if k < 7 {
-        return leaf_type(text, pool, table, i);
+    match o {
+        Op::Mul | Op::Div | Op::Mod | Op::Add | Op::Sub => true,
+        Op::Lt | Op::Gt | Op::Le | Op::Ge | Op::Eq | Op::Ne | Op::And | Op::Xor | Op::Or => false,
     }
-    if k == 8 {
-        return Typed {
-            some: true,
-            ty: Ty::Bool,
-        };
-    }
-    if 15 < k {
-        return Typed {
-            some: true,
-            ty: Ty::Bool,
-        };
-    }
-    if k == 10 {
-        return Typed {
-            some: true,
-            ty: type_at(word(pool, i, 2) % 8),
-        };
-    }
-    let a = type_of_expression(text, pool, table, child(pool, i, 1));
-    if k < 11 {
-        return a;
-    }
-    if a.some {
-        return a;
-    }
-    type_of_expression(text, pool, table, child(pool, i, 2))
 }
 
-// The operator of a node's kind, the first and the last beyond the ends.
+// The type of the expression at a node; what is made of numbers only has none.
+#[tactic(auto, using(crate::proofs::Types::types_by_kind))]
+pub fn type_of_expression(vars: Variables, n: Node) -> Option<Ty>
+    ensures { maybe result ≡ type_of (listed_in vars.entry.text.now vars.entry.pool.now vars.entry.table.now)
+        (expr_at vars.entry.text.now n.entry.pool.now n.entry.at) }
+{
+    match n.expression() {
+        Expression::Number => None,
+        Expression::Variable | Expression::Element => Some(type_of_name(vars, n.place())),
+        Expression::Minus | Expression::Brackets => type_of_expression(vars, n.child(1)),
+        Expression::Conversion(_, u) => Some(u),
+        Expression::Binary(o) if !is_arithmetic(o) => Some(Ty::Bool),
+        Expression::Binary(_) => match type_of_expression(vars, n.child(1)) {
+            Some(u) => Some(u),
+            None => type_of_expression(vars, n.child(2)),
+        },
+        _ => Some(Ty::Bool),
+    }
+}
+
+// The operator with a node's kind, the first and the last beyond the ends.
 pub fn operator_at(k: u16) -> Op
     ensures { result ≡ get_or operators (k - 11) Or }
 {
-    if k < 12 {
-        return Op::Mul;
-    }
     match k {
+        0..=11 => Op::Mul,
         12 => Op::Div,
         13 => Op::Mod,
         14 => Op::Add,
@@ -150,400 +102,276 @@ pub fn operator_at(k: u16) -> Op
 }
 
 // The one type of both operands of the operator at a node, where `t` is offered to the whole.
-pub fn operand_type(text: &[u8], pool: &[u16], table: &[u16], t: Ty, i: usize) -> Ty
-    requires { 4 * i + 4 ≤ length pool.now }
-    ensures { result ≡ operand_type (listed_in text.now pool.now table.now) t
-        (get_or operators (kind_of pool.now i - 11) Or)
-        (expr_at text.now pool.now (child_of pool.now i 1))
-        (expr_at text.now pool.now (child_of pool.now i 2)) }
+pub fn operand_type(vars: Variables, t: Ty, o: Op, n: Node) -> Ty
+    ensures { result ≡ operand_type (listed_in vars.entry.text.now vars.entry.pool.now vars.entry.table.now) t o
+        (operand n.entry.pool.now n.entry.at vars.entry.text.now 1)
+        (operand n.entry.pool.now n.entry.at vars.entry.text.now 2) }
 {
-    let a = type_of_expression(text, pool, table, child(pool, i, 1));
-    if a.some {
-        return a.ty;
+    if let Some(a) = type_of_expression(vars, n.child(1)) {
+        return a;
     }
-    let b = type_of_expression(text, pool, table, child(pool, i, 2));
-    if b.some {
-        return b.ty;
+    if let Some(b) = type_of_expression(vars, n.child(2)) {
+        return b;
     }
-    if kind(pool, i) < 16 { t } else { Ty::Dint }
+    if is_arithmetic(o) { t } else { Ty::Dint }
 }
 
 // Whether an expression begins with what has a type of its own, and so has one itself; a number has none.
-pub fn is_typed(pool: &[u16], i: usize) -> bool
-    requires { 4 * i + 4 ≤ length pool.now }
-    ensures { TypedAt pool.now i result }
+pub fn is_typed(n: Node) -> bool
+    ensures { TypedAt n.entry.pool.now n.entry.at result }
 {
-    let k = kind(pool, i);
-    if k < 7 {
-        return 2 < k;
+    match n.expression() {
+        Expression::Nothing | Expression::Number => false,
+        Expression::Minus | Expression::Brackets => is_typed(n.child(1)),
+        Expression::Binary(o) => !is_arithmetic(o) || is_typed(n.child(1)),
+        _ => true,
     }
-    if k == 8 {
-        return true;
-    }
-    if k == 10 {
-        return true;
-    }
-    if 15 < k {
-        return true;
-    }
-    is_typed(pool, child(pool, i, 1))
 }
 
 // The type that is offered to the first of two operands: where it has its own, any will do, and no name is looked up for it.
-pub fn offered_first(text: &[u8], pool: &[u16], table: &[u16], t: Ty, i: usize) -> Ty
-    requires { 4 * i + 4 ≤ length pool.now }
-    ensures { Offers (listed_in text.now pool.now table.now) t
-        (get_or operators (kind_of pool.now i - 11) Or)
-        (expr_at text.now pool.now (child_of pool.now i 1))
-        (expr_at text.now pool.now (child_of pool.now i 2)) result }
+pub fn offered_first(vars: Variables, t: Ty, o: Op, n: Node) -> Ty
+    ensures { Offers (listed_in vars.entry.text.now vars.entry.pool.now vars.entry.table.now) t o
+        (operand n.entry.pool.now n.entry.at vars.entry.text.now 1)
+        (operand n.entry.pool.now n.entry.at vars.entry.text.now 2) result }
 {
-    if is_typed(pool, child(pool, i, 1)) {
+    if is_typed(n.child(1)) {
         return t;
     }
-    operand_type(text, pool, table, t, i)
+    operand_type(vars, t, o, n)
 }
 
-// The type of a node of the kind `k`, whose word 2 is `w`, over operands of the type `u`.
-pub fn result_type(k: u16, w: u16, u: Ty) -> Ty
-    ensures { result ≡ result_at k w u }
+// The type of an expression over operands of the type `u`.
+pub fn result_type(e: Expression, u: Ty) -> Ty
+    ensures { result ≡ result_at e u }
 {
-    if k == 8 {
-        return Ty::Bool;
+    match e {
+        Expression::Complement => Ty::Bool,
+        Expression::Conversion(_, v) => v,
+        Expression::Binary(o) => if is_arithmetic(o) { u } else { Ty::Bool },
+        _ => u,
     }
-    if k == 10 {
-        return type_at(w % 8);
-    }
-    if 15 < k { Ty::Bool } else { u }
 }
 
 // ---- cells
 
 // The cell of a variable that is no array.
-pub fn variable_cell(text: &[u8], pool: &[u16], table: &[u16], place: u16) -> Celled
-    requires { 4 ≤ length pool.now }
-    ensures { (celled result ≡ variable_cell (listed_in text.now pool.now table.now) (name_at text.now place))
-        × OfName (listed_in text.now pool.now table.now) (name_at text.now place) result.some result.ty }
+pub fn variable_cell(vars: Variables, place: u16) -> Option<Celled>
+    ensures { NamedCell (listed_in vars.entry.text.now vars.entry.pool.now vars.entry.table.now) (name_at vars.entry.text.now place)
+        (variable_cell (listed_in vars.entry.text.now vars.entry.pool.now vars.entry.table.now) (name_at vars.entry.text.now place)) result }
 {
-    let v = find(text, table, place);
-    if v < table.len() / 4 {
-        let j = declaration_of(pool, table, v);
-        if !is_array(pool, j) {
-            return Celled {
-                some: true,
-                cell: word(table, v, 2) as usize,
-                ty: type_of(pool, j),
-            };
-        }
+    let v = vars.find(place)?;
+    let declared = vars.declaration(v);
+    if is_array(declared) {
+        return None;
     }
-    Celled {
-        some: false,
-        cell: 0,
-        ty: Ty::Dint,
-    }
+    Some(Celled {
+        cell: vars.first_cell(v) as usize,
+        ty: type_of(declared),
+    })
 }
 
-// The cell of the element `n` of an array from `lo` to `hi` of the type `t`, if it lies in the array.
-fn cell_from(first: u16, lo: u32, hi: u32, t: Ty, n: usize) -> Celled
-    ensures { (celled result ≡ cell_between first lo hi n) × (result.some ≡ true → result.ty ≡ t) }
+// The cell of the element `n` of an array from `lo` to `hi`, if it lies in the array.
+fn cell_from(first: u16, lo: u32, hi: u32, n: usize) -> Option<usize>
+    ensures { maybe result ≡ cell_between first lo hi n }
 {
     let a = lo as usize;
-    let end = (hi as usize) + 1;
-    if a <= n {
-        if n < end {
-            let at = (first as usize) + (n - a);
-            return Celled {
-                some: true,
-                cell: at,
-                ty: t,
-            };
-        }
+    let b = hi as usize;
+    if n < a || b < n {
+        return None;
     }
-    Celled {
-        some: false,
-        cell: 0,
-        ty: Ty::Dint,
-    }
+    Some(first as usize + (n - a))
 }
 
 // The same of the array of a name.
-fn cell_at(text: &[u8], pool: &[u16], table: &[u16], place: u16, n: usize) -> Celled
-    requires { 4 ≤ length pool.now }
-    ensures { (celled result ≡ element_cell (listed_in text.now pool.now table.now) (name_at text.now place) (some (pos n)))
-        × OfName (listed_in text.now pool.now table.now) (name_at text.now place) result.some result.ty }
+fn cell_at(vars: Variables, place: u16, n: usize) -> Option<Celled>
+    ensures { NamedCell (listed_in vars.entry.text.now vars.entry.pool.now vars.entry.table.now) (name_at vars.entry.text.now place)
+        (element_cell (listed_in vars.entry.text.now vars.entry.pool.now vars.entry.table.now) (name_at vars.entry.text.now place) (some (pos n)))
+        result }
 {
-    let v = find(text, table, place);
-    if v < table.len() / 4 {
-        let j = declaration_of(pool, table, v);
-        if is_array(pool, j) {
-            let b = bounds_of(pool, j);
-            let lo = wide_at(pool, child(pool, b, 1));
-            let hi = wide_at(pool, child(pool, b, 2));
-            return cell_from(word(table, v, 2), lo, hi, type_of(pool, j), n);
-        }
+    let v = vars.find(place)?;
+    let declared = vars.declaration(v);
+    if !is_array(declared) {
+        return None;
     }
-    Celled {
-        some: false,
-        cell: 0,
-        ty: Ty::Dint,
-    }
+    let bounds = bounds_of(declared);
+    let lo = bounds.child(1).wide();
+    let hi = bounds.child(2).wide();
+    let cell = cell_from(vars.first_cell(v), lo, hi, n)?;
+    Some(Celled {
+        cell,
+        ty: type_of(declared),
+    })
 }
 
 // The same of a whole number.
-fn cell_signed(text: &[u8], pool: &[u16], table: &[u16], place: u16, z: i64) -> Celled
-    requires { 4 ≤ length pool.now }
-    ensures { (celled result ≡ element_cell (listed_in text.now pool.now table.now) (name_at text.now place) (some z))
-        × OfName (listed_in text.now pool.now table.now) (name_at text.now place) result.some result.ty }
+fn element_cell(vars: Variables, place: u16, z: i64) -> Option<Celled>
+    ensures { NamedCell (listed_in vars.entry.text.now vars.entry.pool.now vars.entry.table.now) (name_at vars.entry.text.now place)
+        (element_cell (listed_in vars.entry.text.now vars.entry.pool.now vars.entry.table.now) (name_at vars.entry.text.now place) (some z)) result }
 {
     if z < 0 {
-        return Celled {
-            some: false,
-            cell: 0,
-            ty: Ty::Dint,
-        };
+        return None;
     }
-    cell_at(text, pool, table, place, z as usize)
+    cell_at(vars, place, z as usize)
 }
 
-// The same where the subscript may have no value.
-fn element_cell(text: &[u8], pool: &[u16], table: &[u16], place: u16, z: Wholed) -> Celled
-    requires { 4 ≤ length pool.now }
-    ensures { (celled result ≡ element_cell (listed_in text.now pool.now table.now) (name_at text.now place) (wholed z))
-        × OfName (listed_in text.now pool.now table.now) (name_at text.now place) result.some result.ty }
-{
-    if z.some {
-        return cell_signed(text, pool, table, place, z.value);
-    }
-    Celled {
-        some: false,
-        cell: 0,
-        ty: Ty::Dint,
-    }
-}
-
-// ---- operations where an operand may have no value
+// ---- operations
 
 // What a cell holds, 0 beyond the end.
-fn look(env: &[u32], cell: Celled) -> Valued
-    ensures { (valued result ≡ (celled cell then λ c. some (Plain.look env.now c))) × (result.ty ≡ cell.ty) }
+fn look(env: &[u32], c: Celled) -> Valued
+    ensures residue { result.residue ≡ Plain.look env.now (record { 0 = c.cell }) }
+    ensures ty { result.ty ≡ c.ty }
 {
-    let c = cell.cell;
-    let t = cell.ty;
-    if c < env.len() {
-        let x = env[c];
-        return Valued {
-            some: cell.some,
-            residue: x,
-            ty: t,
-        };
-    }
     Valued {
-        some: cell.some,
-        residue: 0,
-        ty: t,
+        residue: env.get(c.cell).copied().unwrap_or(0),
+        ty: c.ty,
     }
 }
 
 // The residue as a whole number.
-fn whole_of(x: Valued) -> Wholed
-    ensures { wholed result ≡ (valued x then λ a. some (decode x.ty a)) }
+fn whole_of(x: Valued) -> i64
+    ensures { result ≡ decode x.ty x.residue }
 {
-    let t = x.ty;
-    Wholed {
-        some: x.some,
-        value: value_of(t, x.residue),
+    value_of(x.ty, x.residue)
+}
+
+// A truth value.
+fn truth_of(b: bool) -> Valued
+    ensures residue { result.residue ≡ bit b }
+    ensures ty { result.ty ≡ BOOL }
+{
+    Valued {
+        residue: bit_of(b),
+        ty: Ty::Bool,
     }
 }
 
 // Unary minus.
 fn minus_of(x: Valued) -> Valued
-    ensures { (valued result ≡ (valued x then λ a. some (negate x.ty a))) × (result.ty ≡ x.ty) }
+    ensures residue { result.residue ≡ negate x.ty x.residue }
+    ensures ty { result.ty ≡ x.ty }
 {
-    let t = x.ty;
     Valued {
-        some: x.some,
-        residue: negated(t, x.residue),
-        ty: t,
+        residue: negated(x.ty, x.residue),
+        ty: x.ty,
     }
 }
 
 // NOT.
 fn complement_of(x: Valued) -> Valued
-    ensures { (valued result ≡ (valued x then λ a. some (bit (not (is_true a))))) × (result.ty ≡ BOOL) }
+    ensures residue { result.residue ≡ bit (not (is_true x.residue)) }
+    ensures ty { result.ty ≡ BOOL }
 {
-    Valued {
-        some: x.some,
-        residue: bit_of(!is_true(x.residue)),
-        ty: Ty::Bool,
-    }
+    truth_of(!is_true(x.residue))
 }
 
 // A conversion from the type `t` to the type `u`.
 fn conversion_of(t: Ty, u: Ty, x: Valued) -> Valued
-    ensures { (valued result ≡ (valued x then λ a. some (convert t u a))) × (result.ty ≡ u) }
+    ensures residue { result.residue ≡ convert t u x.residue }
+    ensures ty { result.ty ≡ u }
 {
     Valued {
-        some: x.some,
         residue: converted(t, u, x.residue),
         ty: u,
     }
 }
 
-// Whether the operator of a kind divides by zero.
-fn by_zero(k: u16, t: Ty, b: u32) -> bool
-    ensures { result ≡ divides (get_or operators (k - 11) Or) && is_zero (decode t b) }
+// Whether an operator divides by zero.
+fn by_zero(o: Op, t: Ty, b: u32) -> bool
+    ensures { result ≡ divides o && is_zero (decode t b) }
 {
-    if k < 12 {
-        return false;
-    }
-    if 13 < k {
-        return false;
-    }
-    value_of(t, b) == 0
+    matches!(o, Op::Div | Op::Mod) && value_of(t, b) == 0
 }
 
-// The operator of a kind on two operands of the type `t`.
-fn result_of(k: u16, t: Ty, x: Valued, y: Valued) -> Valued
-    ensures { (valued result ≡ (valued x then λ a. (valued y then λ b. operate (get_or operators (k - 11) Or) t a b)))
-        × (result.some ≡ true → result.ty ≡ result_at k 0 t) }
+// An operator on two operands of the type `t`: none by zero.
+fn result_of(o: Op, t: Ty, a: u32, b: u32) -> Option<Valued>
+    ensures value { valued result ≡ operate o t a b }
+    ensures ty { IfSome result (λ r. r.ty ≡ result_at (Binary o) t) }
 {
-    if !x.some {
-        return x;
+    if by_zero(o, t, b) {
+        return None;
     }
-    if !y.some {
-        return y;
-    }
-    if by_zero(k, t, y.residue) {
-        return Valued {
-            some: false,
-            residue: 0,
-            ty: t,
-        };
-    }
-    Valued {
-        some: true,
-        residue: apply(operator_at(k), t, x.residue, y.residue),
-        ty: result_type(k, 0, t),
-    }
+    Some(Valued {
+        residue: apply(o, t, a, b),
+        ty: result_type(Expression::Binary(o), t),
+    })
 }
 
 // ---- values
 
-// The value of a number, of FALSE or of TRUE, where `t` is offered.
-fn leaf_value(pool: &[u16], t: Ty, i: usize) -> Valued
-    requires { (4 * i + 4 ≤ length pool.now) × (kind_of pool.now i < 5) }
-    ensures { LeafValue pool.now t i result }
-{
-    let k = kind(pool, i);
-    if k == 0 {
-        return Valued {
-            some: true,
-            residue: 0,
-            ty: Ty::Bool,
-        };
-    }
-    if k < 3 {
-        return Valued {
-            some: true,
-            residue: residue_of(t, whole(pool, i)),
-            ty: t,
-        };
-    }
-    Valued {
-        some: true,
-        residue: bit_of(k == 4),
-        ty: Ty::Bool,
-    }
-}
-
 // The cell of the name or element at a node.
 #[cycle(values)]
-pub fn cell_of(text: &[u8], pool: &[u16], table: &[u16], env: &[u32], i: usize) -> Celled
-    requires { 4 * i + 4 ≤ length pool.now }
-    ensures { (celled result ≡ cell_of (listed_in text.now pool.now table.now) env.now (expr_at text.now pool.now i))
-        × OfType (listed_in text.now pool.now table.now) (expr_at text.now pool.now i) result.some result.ty }
+#[tactic(auto, using(crate::proofs::Values::nothing_of_nothing))]
+pub fn cell_of(vars: Variables, env: &[u32], n: Node) -> Option<Celled>
+    ensures { CellIn (listed_in vars.entry.text.now vars.entry.pool.now vars.entry.table.now) env.now
+        (expr_at vars.entry.text.now n.entry.pool.now n.entry.at) result }
 {
-    let k = kind(pool, i);
-    if k == 5 {
-        return variable_cell(text, pool, table, word(pool, i, 3));
+    match n.expression() {
+        Expression::Variable => variable_cell(vars, n.place()),
+        Expression::Element => {
+            let z = whole_in(vars, env, Ty::Dint, n.child(1))?;
+            element_cell(vars, n.place(), z)
+        }
+        _ => None,
     }
-    if k == 6 {
-        let z = whole_in(text, pool, table, env, Ty::Dint, child(pool, i, 1));
-        return element_cell(text, pool, table, word(pool, i, 3), z);
-    }
-    Celled {
-        some: false,
-        cell: 0,
-        ty: Ty::Dint,
-    }
-}
-
-// The value of the expression at a node with one operand.
-#[cycle(values)]
-fn unary_value(text: &[u8], pool: &[u16], table: &[u16], env: &[u32], t: Ty, i: usize) -> Valued
-    requires { (4 * i + 4 ≤ length pool.now) × (6 < kind_of pool.now i) × (kind_of pool.now i < 11) }
-    ensures { ValueIn (listed_in text.now pool.now table.now) env.now t (expr_at text.now pool.now i) result }
-{
-    let k = kind(pool, i);
-    let a = child(pool, i, 1);
-    if k == 8 {
-        return complement_of(value_in(text, pool, table, env, Ty::Dint, a));
-    }
-    if k == 10 {
-        let w = word(pool, i, 2);
-        let u = type_at(w / 8);
-        return conversion_of(u, type_at(w % 8), value_in(text, pool, table, env, u, a));
-    }
-    let x = value_in(text, pool, table, env, t, a);
-    if k == 9 {
-        return x;
-    }
-    minus_of(x)
 }
 
 // The value of the expression at a node with two operands; the first one's value tells the type of both.
 #[cycle(values)]
-fn binary_value(text: &[u8], pool: &[u16], table: &[u16], env: &[u32], t: Ty, i: usize) -> Valued
-    requires { (4 * i + 4 ≤ length pool.now) × (10 < kind_of pool.now i) × (kind_of pool.now i < 25) }
-    ensures { ValueIn (listed_in text.now pool.now table.now) env.now t (expr_at text.now pool.now i) result }
+#[tactic(auto, using(crate::proofs::Values::nothing_of_two))]
+fn binary_value(vars: Variables, env: &[u32], t: Ty, o: Op, n: Node) -> Option<Valued>
+    requires { IsExpression n.pool.now n.at (Binary o) }
+    ensures { ValueIn (listed_in vars.entry.text.now vars.entry.pool.now vars.entry.table.now) env.now t
+        (expr_at vars.entry.text.now n.entry.pool.now n.entry.at) result }
 {
-    let offered = offered_first(text, pool, table, t, i);
-    let x = value_in(text, pool, table, env, offered, child(pool, i, 1));
+    let offered = offered_first(vars, t, o, n);
+    let x = value_in(vars, env, offered, n.child(1))?;
     let u = x.ty;
-    let y = value_in(text, pool, table, env, u, child(pool, i, 2));
-    result_of(kind(pool, i), u, x, y)
+    let y = value_in(vars, env, u, n.child(2))?;
+    result_of(o, u, x.residue, y.residue)
 }
 
 // The value of the expression at a node, where `t` is offered.
 #[cycle(values)]
-pub fn value_in(text: &[u8], pool: &[u16], table: &[u16], env: &[u32], t: Ty, i: usize) -> Valued
-    requires { 4 * i + 4 ≤ length pool.now }
-    ensures { ValueIn (listed_in text.now pool.now table.now) env.now t (expr_at text.now pool.now i) result }
+#[tactic(auto, using(crate::proofs::Values::nothing_of_nothing))]
+pub fn value_in(vars: Variables, env: &[u32], t: Ty, n: Node) -> Option<Valued>
+    ensures { ValueIn (listed_in vars.entry.text.now vars.entry.pool.now vars.entry.table.now) env.now t
+        (expr_at vars.entry.text.now n.entry.pool.now n.entry.at) result }
 {
-    let k = kind(pool, i);
-    if k < 5 {
-        return leaf_value(pool, t, i);
-    }
-    if k < 7 {
-        return look(env, cell_of(text, pool, table, env, i));
-    }
-    if k < 11 {
-        return unary_value(text, pool, table, env, t, i);
-    }
-    if k < 25 {
-        return binary_value(text, pool, table, env, t, i);
-    }
-    Valued {
-        some: true,
-        residue: 0,
-        ty: Ty::Bool,
+    match n.expression() {
+        Expression::Nothing => Some(truth_of(false)),
+        Expression::Number => Some(Valued {
+            residue: residue_of(t, n.whole()),
+            ty: t,
+        }),
+        Expression::Truth(b) => Some(truth_of(b)),
+        Expression::Variable | Expression::Element => {
+            let c = cell_of(vars, env, n)?;
+            Some(look(env, c))
+        }
+        Expression::Minus => {
+            let x = value_in(vars, env, t, n.child(1))?;
+            Some(minus_of(x))
+        }
+        Expression::Complement => {
+            let x = value_in(vars, env, Ty::Dint, n.child(1))?;
+            Some(complement_of(x))
+        }
+        Expression::Brackets => value_in(vars, env, t, n.child(1)),
+        Expression::Conversion(u, v) => {
+            let x = value_in(vars, env, u, n.child(1))?;
+            Some(conversion_of(u, v, x))
+        }
+        Expression::Binary(o) => binary_value(vars, env, t, o, n),
     }
 }
 
 // The same as a whole number: of bounds, steps and subscripts.
 #[cycle(values)]
-pub fn whole_in(text: &[u8], pool: &[u16], table: &[u16], env: &[u32], t: Ty, i: usize) -> Wholed
-    requires { 4 * i + 4 ≤ length pool.now }
-    ensures { wholed result ≡ whole_value (listed_in text.now pool.now table.now) env.now t (expr_at text.now pool.now i) }
+#[tactic(auto, using(crate::proofs::Values::nothing_of_nothing))]
+pub fn whole_in(vars: Variables, env: &[u32], t: Ty, n: Node) -> Option<i64>
+    ensures { maybe result ≡ whole_value (listed_in vars.entry.text.now vars.entry.pool.now vars.entry.table.now) env.now t
+        (expr_at vars.entry.text.now n.entry.pool.now n.entry.at) }
 {
-    whole_of(value_in(text, pool, table, env, t, i))
+    let x = value_in(vars, env, t, n)?;
+    Some(whole_of(x))
 }

@@ -4,3 +4,4 @@ pub mod Exprs
 pub mod Lists
 mod Figures
 pub mod Markings
+pub mod Views

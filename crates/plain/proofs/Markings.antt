@@ -3,17 +3,20 @@ use mathlib.Core.Path.{◌≡◌, refl, sym, ap, ap₂, ◌∙◌}
 use mathlib.Core.Bool.{Bool, true, false, cond, ◌||◌, or-false}
 use mathlib.Core.List.{List}
 use Prim.Native.Nat.{ℕ, zero, suc, ◌+◌, ◌<◌, ◌≤◌}
-use native.Mathlib.Numerals.{add-one}
 use native.Mathlib.Omega.{arith}
 use lib.Dec.{eqb, ltb}
-use lib.ListN.{length, get_or, set, length-set}
-use lib.Seq.{get_or-set_same, get_or-set_other}
+use lib.ListN.{length, get_or, set, take, length-set}
+use Rattle.std.proofs.Common.{count_by}
+use Rattle.std.proofs.lemmas.List.Sums.{count_by_more_yes, count_by_more_no}
+use lib.Seq.{get_or-set_same, get_or-set_other, set_out}
 use borrow.Author.Tests.{eqb-true, eqb-false}
 use Rattle.paper.specs.Plain.{Stmts, done, assigns, count, cells_within}
-use Rattle.tree.specs.Nodes.{word_of, child_of}
+use Rattle.tree.specs.Nodes.{word_of}
 use Rattle.plain.specs.Flat.{list_at}
 use Rattle.plain.specs.Marks.{is_marked, Marks}
-use Rattle.plain.proofs.Lists.{assigns_join, list_nil, list_assign, list_choice, list_both, list_other}
+use Rattle.plain.specs.Kinds.{sublist, IsStatement}
+use Rattle.plain.specs.declared.kinds.Statement.TheVariants as F
+use Rattle.plain.proofs.Lists.{assigns_join}
 
 -- ---- the marks of a list
 
@@ -48,33 +51,43 @@ both_marks s t u h old mid new x y =
     joined true false n = refl
     joined false b n = refl
 
-pub nil_marks : (p m : List ℕ) → Marks (list_at p 0) m m
-nil_marks p m = rw (list_nil p) (none_marks m)
+module _ (p : List ℕ) (i : ℕ) where
+  pub nothing_marks : IsStatement p i F.Nothing → (m : List ℕ) → Marks (list_at p i) m m
+  nothing_marks v m = rw v.list (none_marks m)
 
-module _ (p : List ℕ) (i : ℕ) (some : 0 < i) where
-  pub assign_marks : word_of p i 0 < 41 → (m new : List ℕ) → new ≡ set m (word_of p i 1) 1 → Marks (list_at p i) m new
+  pub assign_marks : IsStatement p i F.Assignment → (m new : List ℕ) → new ≡ set m (word_of p i 1) 1 → Marks (list_at p i) m new
   unfolding assigns
-  assign_marks l m new e = one_marks (list_at p i) m new (word_of p i 1) (λ c. rw (list_assign p i some l) (or-false _)) e
+  assign_marks v m new e = one_marks (list_at p i) m new (word_of p i 1) (λ c. rw v.list (or-false _)) e
 
-  pub choice_marks : word_of p i 0 ≡ 41 → (old mid new : List ℕ) → Marks (list_at p (child_of p i 2)) old mid → Marks (list_at p (child_of p i 3)) mid new → Marks (list_at p i) old new
+  pub choice_marks : IsStatement p i F.Choice → (old mid new : List ℕ) → Marks (sublist p i 2) old mid → Marks (sublist p i 3) mid new
+      → Marks (list_at p i) old new
   unfolding assigns
-  choice_marks e old mid new x y = both_marks _ _ _ (λ c. rw (list_choice p i some e) (or-false _)) old mid new x y
+  choice_marks v old mid new x y = both_marks _ _ _ (λ c. rw v.list (or-false _)) old mid new x y
 
-  pub list_marks : word_of p i 0 ≡ 44 → (old mid new : List ℕ) → Marks (list_at p (child_of p i 1)) old mid → Marks (list_at p (child_of p i 2)) mid new → Marks (list_at p i) old new
-  list_marks e old mid new x y = both_marks _ _ _ (λ c. rw (list_both p i some e) (assigns_join _ _ c)) old mid new x y
-
-  pub other_marks : 41 < word_of p i 0 → (word_of p i 0 ≡ 44 → ⊥) → (m : List ℕ) → Marks (list_at p i) m m
-  other_marks l h m = rw (list_other p i some l h) (none_marks m)
+  pub list_marks : IsStatement p i F.List → (old mid new : List ℕ) → Marks (sublist p i 1) old mid → Marks (sublist p i 2) mid new
+      → Marks (list_at p i) old new
+  list_marks v old mid new x y = both_marks _ _ _ (λ c. rw v.list (assigns_join _ _ c)) old mid new x y
 
 -- ---- how many are marked
 
-pub count_none : (f : ℕ → Bool) → count f 0 ≡ 0
+-- those of the first n in a list, counted by their places
+pub count_first : (m : List ℕ) (n : ℕ) → n ≤ length m → count_by (λ v. ltb 0 v) (take n m) ≡ count (is_marked m) n
 unfolding count
-count_none f = refl
-
-pub count_more : (f : ℕ → Bool) (n : ℕ) (b : Bool) → f n ≡ b → count f (n + 1) ≡ count f n + cond b 1 0
-unfolding count
-count_more f n b e = rw (add-one, e) (omega arith)
+count_first m zero h = refl
+count_first m (suc n) h = go (is_marked m n) refl (count_first m n (omega arith))
+  where
+    go : (b : Bool) → is_marked m n ≡ b → count_by (λ v. ltb 0 v) (take n m) ≡ count (is_marked m) n
+        → count_by (λ v. ltb 0 v) (take (suc n) m) ≡ cond (is_marked m n) 1 0 + count (is_marked m) n
+    go true e k =
+        let step : suc n ≡ n + 1 = omega arith in
+        ap (λ i. count_by (λ v. ltb 0 v) (take i m)) step
+        ∙ count_by_more_yes (λ v. ltb 0 v) m n 0 (omega arith) e
+        ∙ omega (arith, k, ap {B = ℕ} (λ b. cond b 1 0) e)
+    go false e k =
+        let step : suc n ≡ n + 1 = omega arith in
+        ap (λ i. count_by (λ v. ltb 0 v) (take i m)) step
+        ∙ count_by_more_no (λ v. ltb 0 v) m n 0 (omega arith) e
+        ∙ omega (arith, k, ap {B = ℕ} (λ b. cond b 1 0) e)
 
 count_same : (f g : ℕ → Bool) (n : ℕ) → ((c : ℕ) → c < n → f c ≡ g c) → count f n ≡ count g n
 unfolding count

@@ -1,68 +1,56 @@
 // ST0 in a flat pool: the figure of a list, and the cells that two lists assign.
 #![tactic(auto)]
 
-ghost use Rattle.std.specs.Prelude.{◌≡◌, ◌+◌, ◌*◌, ◌≤◌, min, length};
+pub mod kinds;
+
+ghost use Rattle.std.specs.Prelude.{◌≡◌, ◌≤◌, min, length};
 ghost use Rattle.paper.specs.Plain.{figure, count, cells_within};
 ghost use Rattle.plain.specs.Flat.{list_at};
 ghost use Rattle.plain.specs.Marks.{is_marked, Marks};
 
-use tree::{child, word};
+use crate::kinds::{Statement, as_statement, cell_of};
+use tree::node::Node;
 
 // The longest way through a list, 65535 standing for more.
-pub fn figure_of(pool: &[u16], i: usize) -> usize
-    requires { 4 * i + 4 ≤ length pool.now }
-    ensures { result ≡ min 65535 (figure (list_at pool.now i)) }
+pub fn figure_of(n: Node) -> usize
+    ensures { result ≡ min 65535 (figure (list_at n.entry.pool.now n.entry.at)) }
 {
-    if i == 0 {
-        return 0;
+    match as_statement(n) {
+        Statement::Nothing => 0,
+        Statement::Assignment => 1,
+        Statement::Choice => {
+            let a = figure_of(n.child(2));
+            let b = figure_of(n.child(3));
+            (a.max(b) + 1).min(65535)
+        }
+        Statement::List => {
+            let a = figure_of(n.child(1));
+            let b = figure_of(n.child(2));
+            (a + b).min(65535)
+        }
     }
-    let k = word(pool, i, 0);
-    if k < 41 {
-        return 1;
-    }
-    if k == 41 {
-        let a = figure_of(pool, child(pool, i, 2));
-        let b = figure_of(pool, child(pool, i, 3));
-        return capped(if a < b { b + 1 } else { a + 1 });
-    }
-    if k == 44 {
-        let a = figure_of(pool, child(pool, i, 1));
-        return capped(a + figure_of(pool, child(pool, i, 2)));
-    }
-    0
-}
-
-// 65535 standing for more.
-pub fn capped(n: usize) -> usize
-    ensures { result ≡ min 65535 n }
-{
-    if n < 65535 { n } else { 65535 }
 }
 
 // Marks the cells that a list assigns.
-pub fn mark(pool: &[u16], i: usize, marks: &mut [u8])
-    requires { 4 * i + 4 ≤ length pool.now }
-    ensures { Marks (list_at pool.now i) marks.old marks.new }
+pub fn mark(n: Node, marks: &mut [u8])
+    ensures { Marks (list_at n.entry.pool.now n.entry.at) marks.old marks.new }
 {
-    if i == 0 {
-        return;
-    }
-    let k = word(pool, i, 0);
-    if k < 41 {
-        let c = word(pool, i, 1) as usize;
-        if c < marks.len() {
-            marks[c] = 1;
+    match as_statement(n) {
+        Statement::Nothing => {}
+        Statement::Assignment => {
+            let c = cell_of(n).0 as usize;
+            if c < marks.len() {
+                marks[c] = 1;
+            }
         }
-        return;
-    }
-    if k == 41 {
-        mark(pool, child(pool, i, 2), marks);
-        mark(pool, child(pool, i, 3), marks);
-        return;
-    }
-    if k == 44 {
-        mark(pool, child(pool, i, 1), marks);
-        mark(pool, child(pool, i, 2), marks);
+        Statement::Choice => {
+            mark(n.child(2), marks);
+            mark(n.child(3), marks);
+        }
+        Statement::List => {
+            mark(n.child(1), marks);
+            mark(n.child(2), marks);
+        }
     }
 }
 
@@ -71,24 +59,16 @@ fn marked(marks: &[u8], n: usize) -> usize
     requires { n ≤ length marks.now }
     ensures { result ≡ count (is_marked marks.now) n }
 {
-    let mut k = 0;
-    let mut i = 0;
-    while i < n {
-        if marks[i] != 0 {
-            k += 1;
-        }
-        i += 1;
-    }
-    k
+    marks[..n].iter().filter(|m| **m != 0).count()
 }
 
-// How many of `n` cells two lists assign.
-pub fn cells_within(pool: &[u16], n: usize, a: usize, b: usize) -> usize
-    requires { (n ≤ 64) × (4 * a + 4 ≤ length pool.now) × (4 * b + 4 ≤ length pool.now) }
-    ensures { result ≡ cells_within n (list_at pool.now a) (list_at pool.now b) }
+// How many of `count` cells two lists assign.
+pub fn cells_within(count: usize, a: Node, b: Node) -> usize
+    requires { count ≤ 64 }
+    ensures { result ≡ cells_within count (list_at a.entry.pool.now a.entry.at) (list_at b.entry.pool.now b.entry.at) }
 {
     let mut marks = [0u8; 64];
-    mark(pool, a, &mut marks);
-    mark(pool, b, &mut marks);
-    marked(&marks, n)
+    mark(a, &mut marks);
+    mark(b, &mut marks);
+    marked(&marks, count)
 }

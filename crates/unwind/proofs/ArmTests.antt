@@ -7,7 +7,9 @@ use native.Mathlib.Omega.{arith}
 use lib.ListN.{length}
 use Rattle.paper.specs.declared.Ty.TheVariants.{Bool as BOOL, Dint as DINT}
 use Rattle.paper.specs.declared.Op.TheVariants.{Or}
-use Rattle.paper.specs.Refusals.{Answer, refused, given}
+use Rattle.std.specs.Prelude.{Result, Ok}
+use Rattle.paper.specs.declared.Refusal.{Refusal}
+use Rattle.paper.specs.Refusals.{given}
 use Rattle.paper.specs.Source as S
 use Rattle.paper.specs.Source.{Label, one, range}
 use Rattle.paper.specs.Names.{Variable}
@@ -23,12 +25,12 @@ use Rattle.plain.proofs.Forms.{put_truth}
 use Rattle.unwind.specs.declared.parts.Part.{Part}
 use Rattle.unwind.specs.declared.lists.Walk.{Walk}
 use Rattle.unwind.specs.declared.cases.Selector as Stand
-use Rattle.unwind.specs.Parts.{Holds, Emitted, Inside, Parted, PartDid}
+use Rattle.unwind.specs.Parts.{Holds, Emitted, Inside, Ends, Parted, PartDid}
 use Rattle.unwind.specs.Walks.{TestsParts, Spelt, selects, nodes_of, or_nodes, tests_nodes}
 use Rattle.unwind.specs.Arms.{selecting, ArmTestDid}
-use Rattle.paper.proofs.Whys.{code_pos}
+use Rattle.unwind.proofs.Emits.{ends_of}
 use Rattle.unwind.proofs.Tests.{labels_some}
-use Rattle.unwind.proofs.Walking.{weighs, outweighs, parts_some}
+use Rattle.unwind.proofs.Walking.{weighs, parts_some}
 
 -- ---- as many nodes as parts are enough, the selector's once
 
@@ -60,71 +62,49 @@ module _ (p : List ℕ) (i : ℕ) (nil : i ≡ 0) where
 
 -- ---- the arm
 
-module _ (vs : List Variable) (env : State) (old mid : List ℕ) (sel : Stand.Selector) (e : S.Expr) (p : List ℕ) (i n w : ℕ) (v : Part) (r : Walk)
-    (d : PartDid vs (length env) old mid n (plain_of vs env DINT e) (type_in vs DINT e) v) where
+module _ (vs : List Variable) (env : State) (old mid : List ℕ) (sel : Stand.Selector) (e : S.Expr) (p : List ℕ) (i n w : ℕ) where
   abbrev tests : Expr → Expr
   tests x = tests_of (selecting sel x) (labels_at p i)
 
-  abbrev Did : List ℕ → Type 0
-  Did new = ArmTestDid vs env old new sel e (labels_at p i) n w r
+  abbrev Did : List ℕ → Result Walk Refusal → Type 0
+  Did new r = ArmTestDid vs env old new sel e (labels_at p i) n w r
 
   -- the selector as it was walked
-  walked : Inside (length env) vs → (x : Expr) → plain_of vs env DINT e ≡ given x → Parted mid n (given x) v
-  walked ins x h = subst (λ o. Parted mid n o v) (d.is ins ∙ h) d.parted
+  abbrev Looked : Result Part Refusal → Type 0
+  Looked r = PartDid vs (length env) old mid n (plain_of vs env DINT e) (type_in vs DINT e) r
 
-  pub arm_refused : (v.code ≡ 0 → ⊥) → r.code ≡ v.code → Did mid
-  arm_refused non ec =
-      record {
-        long = d.long;
-        same = d.same;
-        goes = λ z. absurd (non (sym ec ∙ z));
-        tested = λ ins x h. absurd (non (walked ins x h).0);
-      }
+  module _ (v : Part) (d : Looked (Ok v)) (k : ℕ) (counted : TestsParts p v.parts i k) where
+    walked : Inside (length env) vs → (x : Expr) → plain_of vs env DINT e ≡ given x → Ends mid n x v
+    walked ins x h = subst (λ o. Parted mid n o (Ok v)) (d.is ins ∙ h) d.parted
 
-  module _ (k : ℕ) (counted : TestsParts p v.parts i k) where
-    size : (x : Expr) → Parted mid n (given x) v → k ≡ min 3001 (parts (tests x))
-    size x h = counted.1 (selecting sel x) h.1
+    size : (x : Expr) → Ends mid n x v → k ≡ min 3001 (parts (tests x))
+    size x h = counted.1 (selecting sel x) h.counted
 
-    pub arm_heavy : 3000 < w + k → r.code ≡ 9 → r.at ≡ sel.place → Did mid
-    arm_heavy l ec ea =
-        record {
-          long = d.long;
-          same = d.same;
-          goes = λ z. absurd (omega arith);
-          tested = λ ins x h. rw (outweighs sel.place (parts (tests x)) w (omega (arith, size x (walked ins x h)))) (ec, ea);
-        }
-
-    module _ (new : List ℕ) (m : ℕ) (good : v.code ≡ 0) (light : w + k ≤ 3000) (code : r.code ≡ 0) (ec : r.count ≡ m) (er : r.root ≡ m) (ew : r.weight ≡ w + k) where
+    module _ (new : List ℕ) (m z : ℕ) (ez : z ≡ w + k) (light : z ≤ 3000) where
       -- the node m is the test's, and two nodes are spared
       abbrev Stands : Type 0
-      Stands = (x : Expr) → Parted mid n (given x) v → k ≡ parts (tests x) → (n ≤ m) × (m + 2 ≤ n + 4 * k) × (expr_at new m ≡ tests x)
+      Stands = (x : Expr) → Ends mid n x v → k ≡ parts (tests x) → (n ≤ m) × (m + 2 ≤ n + 4 * k) × (expr_at new m ≡ tests x)
 
-      light_did : length new ≡ length mid → Same n mid new → Stands → Did new
+      light_did : length new ≡ length mid → Same n mid new → Stands → Did new (Ok (record { count = m; root = m; weight = z }))
       light_did long same stands =
           record {
             long = long ∙ d.long;
             same = same_trans old mid new n d.same same;
-            goes = λ z. go d.own d.parted;
+            goes =
+                let g = ends_of mid n d.own v d.parted in
+                let s = stands g.0 g.2 (exact g.0 g.2) in
+                (omega arith, omega arith, omega arith, omega arith, omega arith);
             tested = λ ins x h.
                 let q = walked ins x h in
                 let s = stands x q (exact x q) in
-                rw (weighs sel.place (parts (tests x)) w (omega (arith, exact x q))) (code, ew ∙ ap (λ j. w + j) (exact x q), ap (expr_at new) er ∙ s.2);
+                rw (weighs sel.place (parts (tests x)) w (omega (arith, exact x q))) (ez ∙ ap (λ j. w + j) (exact x q), s.2);
           }
         where
-          exact : (x : Expr) → Parted mid n (given x) v → k ≡ parts (tests x)
+          exact : (x : Expr) → Ends mid n x v → k ≡ parts (tests x)
           exact x h = omega (arith, size x h)
 
-          go : (o : Answer Expr) → Parted mid n o v
-              → (n ≤ r.count) × (r.root ≤ r.count) × (w ≤ r.weight) × (r.weight ≤ 3000) × (r.count + 2 + 4 * w ≤ n + 4 * r.weight)
-          go (refused y q) h = absurd (code_pos y (sym h.0 ∙ good))
-          go (given x) h =
-              let s = stands x h (exact x h) in
-              let low : n ≤ m = s.0 in
-              let high : m + 2 ≤ n + 4 * k = s.1 in
-              (omega arith, omega arith, omega arith, omega arith, omega arith)
-
       module _ (few : n ≤ 4 * w) (room : 48016 ≤ length old) where
-        pub arm_none : i ≡ 0 → Emitted mid new n 3 0 0 0 m → Did new
+        pub arm_none : i ≡ 0 → Emitted mid new n 3 0 0 0 m → Did new (Ok (record { count = m; root = m; weight = z }))
         arm_none nil emitted =
             light_did emitted.long emitted.same
             (λ x h ek.
@@ -137,17 +117,18 @@ module _ (vs : List Variable) (env : State) (old mid : List ℕ) (sel : Stand.Se
               ap₂ expr_at wrote.1 last ∙ put_truth mid (n + 1) 0 0 0 (omega arith) fits false ∙ sym (no_tests p i nil (selecting sel x)),
             ))
 
-        pub arm_some : 0 < i → (here : Stand.Selector) → here.place ≡ sel.place → here.ty ≡ sel.ty → here.root ≡ v.count
-            → Spelt mid new v.count (tests_nodes (labels_at p i)) (tests_of (selects mid here) (labels_at p i)) m → Did new
-        arm_some some here ep et eroot spelt =
-            light_did spelt.long (same_less mid new v.count n spelt.same d.more)
+        pub arm_some : 0 < i
+            → Spelt mid new v.count (tests_nodes (labels_at p i)) (tests_of (selects mid sel v.count) (labels_at p i)) m
+            → Did new (Ok (record { count = m; root = m; weight = z }))
+        arm_some some spelt =
+            light_did spelt.long (same_less mid new v.count n spelt.same d.part.more)
             (λ x h ek.
             let bound = labels_some p i some (λ ls. tests_nodes ls + parts x ≤ parts (tests_of (selecting sel x) ls)) (tests_bound (selecting sel x)) in
-            let before = h.2 (omega (arith, d.long, bound, ek)) in
+            let before = h.ends (omega (arith, d.long, bound, ek)) in
             let at : v.count ≡ n + parts x = before.0 in
             let behind = spelt.ends (omega (arith, d.long, bound, ek)) in
             let last : m ≡ v.count + tests_nodes (labels_at p i) = behind.0 in
-            let same : selects mid here ≡ selecting sel x = rw (ep, et, eroot, before.1) in (
+            let same : selects mid sel v.count ≡ selecting sel x = rw before.1 in (
               omega arith,
               omega (arith, bound, ek, parts_some x),
               behind.1 ∙ ap (λ s. tests_of s (labels_at p i)) same,

@@ -1,34 +1,31 @@
 -- An assignment walked, and what it puts in front of a list.
 use mathlib.Core.Path.{◌≡◌, refl, sym, ap, ap₂, ◌∙◌}
-use mathlib.Core.Option.{none, some}
 use mathlib.Core.List.{List}
 use Prim.Native.Nat.{ℕ, ◌*◌, ◌≤◌}
-use native.Mathlib.Omega.{arith}
 use lib.ListN.{length}
 use Rattle.paper.specs.declared.Cell.{Cell}
-use Rattle.paper.specs.declared.Ty.{Ty}
 use Rattle.paper.specs.declared.Ty.TheVariants.{Dint as DINT}
-use Rattle.paper.specs.declared.Why.TheVariants.{BadWalk}
+use Rattle.std.specs.Prelude.{Result, Ok}
+use Rattle.paper.specs.declared.Refusal.{Refusal}
 use Rattle.paper.specs.Refusals.{Answer, refused, given, ◌>>=◌}
 use Rattle.paper.specs.Source as S
 use Rattle.paper.specs.Names.{Variable}
 use Rattle.paper.specs.Heights.{first_word}
 use Rattle.paper.specs.Typing.{type_in}
 use Rattle.paper.specs.Plain.{Expr, State, assign, done, parts, ◌⨾◌}
-use Rattle.paper.specs.Meaning.{cell_of}
-use Rattle.paper.specs.Unwinding.{Unwound, unwound, heavier, no_selector, bracket_of, cell_in, plain_of, unwind}
+use Rattle.paper.specs.Unwinding.{Unwound, unwound, heavier, no_selector, cell_in, plain_of, unwind}
 use Rattle.tree.specs.Nodes.{child_of}
 use Rattle.tree.specs.Trees.{expr_at}
 use Rattle.tree.proofs.Decodes.{same_less, same_trans}
 use Rattle.variables.specs.Table.{listed_in}
 use Rattle.unwind.specs.declared.parts.Part.{Part}
 use Rattle.unwind.specs.declared.lists.Walk.{Walk}
-use Rattle.unwind.specs.Parts.{Inside, PlainDid}
-use Rattle.unwind.specs.Walks.{said, WalkDid, assigning, AssignedDid, assign_of, assign_at, behind, Front}
-use Rattle.unwind.proofs.Insides.{cell_inside, cell_given, cell_refused}
-use Rattle.unwind.proofs.Walking.{said_bad}
+use Rattle.constants.specs.declared.Celled.{Celled}
+use Rattle.unwind.specs.Parts.{PlainDid, CellDid}
+use Rattle.unwind.specs.Walks.{WalkDid, assigning, AssignedDid, assign_of, assign_at, behind, Front}
+use Rattle.unwind.proofs.Emits.{ends_of}
 
-module _ (t p tab : List ℕ) (env : State) (i n w x : ℕ) (ex : x ≡ child_of p i 1) (old : List ℕ) (r : Walk) where
+module _ (t p tab : List ℕ) (env : State) (i n w x : ℕ) (ex : x ≡ child_of p i 1) (old : List ℕ) where
   abbrev vs : List Variable
   vs = listed_in t p tab
 
@@ -39,50 +36,38 @@ module _ (t p tab : List ℕ) (env : State) (i n w x : ℕ) (ex : x ≡ child_of
       plain_of vs env (type_in vs DINT (expr_at t p (child_of p i 1))) (expr_at t p (child_of p i 2)) >>= λ v.
       heavier (first_word (expr_at t p (child_of p i 1))) (parts v) w >>= λ w. unwound (assign c v done) w
 
-  target : (o : Answer Cell) → cell_in vs env (expr_at t p x) ≡ o → assign_at vs t p env i w ≡ from o
-  target o e = ap (λ j. from (cell_in vs env (expr_at t p j))) (sym ex) ∙ ap from e
+  target : (o : Answer Cell) → o ≡ cell_in vs env (expr_at t p x) → from o ≡ assign_at vs t p env i w
+  target o e = ap from e ∙ ap (λ j. from (cell_in vs env (expr_at t p j))) ex
 
-  none_is : r.code ≡ 8 → r.at ≡ bracket_of (expr_at t p x) → none ≡ cell_of vs env (expr_at t p x) → said old r ≡ assign_at vs t p env i w
-  none_is ec ea e = said_bad old r BadWalk _ ec ea ∙ sym (target _ (cell_refused vs env (expr_at t p x) e))
+  module _ (c : Celled) (at : CellDid vs env (expr_at t p x) (Ok c)) (mid : List ℕ) (y : ℕ) (ey : y ≡ child_of p i 2) where
+    abbrev X : S.Expr
+    X = expr_at t p (child_of p i 1)
 
-  no_target : r.code ≡ 8 → r.at ≡ bracket_of (expr_at t p x) → (Inside (length env) vs → none ≡ cell_of vs env (expr_at t p x))
-      → WalkDid vs (length env) old old n w (assign_at vs t p env i w) r
-  no_target ec ea e =
-      record {
-        long = refl;
-        same = λ j s. refl;
-        goes = λ z. absurd (omega arith);
-        is = λ ins s. none_is ec ea (e ins);
-      }
+    abbrev cell : Cell
+    cell = record { 0 = c.cell }
 
-  pub assign_none : r.code ≡ 8 → r.at ≡ bracket_of (expr_at t p x) → none ≡ cell_of vs env (expr_at t p x)
-      → WalkDid vs (length env) old old n w (assign_at vs t p env i w) r
-  assign_none ec ea e = no_target ec ea (λ ins. e)
+    -- from the right side
+    right_side : (o : Answer Expr) → o ≡ plain_of vs env c.ty (expr_at t p y)
+        → assigning (first_word X) cell w o ≡ from (given cell)
+    right_side o e =
+        let type_is : c.ty ≡ type_in vs DINT X = at.cell.1 DINT ∙ ap (λ j. type_in vs DINT (expr_at t p j)) ex in
+        ap (assigning (first_word X) cell w) (e ∙ ap₂ (λ u j. plain_of vs env u (expr_at t p j)) type_is ey)
 
-  pub assign_beyond : r.code ≡ 8 → r.at ≡ bracket_of (expr_at t p x) → (c : ℕ) → some (record { 0 = c }) ≡ cell_of vs env (expr_at t p x)
-      → length env ≤ c → WalkDid vs (length env) old old n w (assign_at vs t p env i w) r
-  assign_beyond ec ea c e l =
-      no_target ec ea (λ ins. absurd (omega (arith, cell_inside vs (length env) ins (record { 0 = c }) env (expr_at t p x) (sym e))))
-
-  pub assign_did : (mid new : List ℕ) (cell : Cell) (at y : ℕ) (ty : Ty) (v : Part) → some cell ≡ cell_of vs env (expr_at t p x)
-      → ty ≡ type_in vs DINT (expr_at t p x) → at ≡ first_word (expr_at t p x) → y ≡ child_of p i 2 → PlainDid t p tab env ty y old mid n v
-      → AssignedDid mid new at cell w v r → n ≤ 4 * w → WalkDid vs (length env) old new n w (assign_at vs t p env i w) r
-  assign_did mid new cell at y ty v ec et ea ey d a l =
-      let did = a.does n d.own d.parted l d.more in
-      let X = expr_at t p (child_of p i 1) in
-      let at-is : at ≡ first_word X = ea ∙ ap (λ j. first_word (expr_at t p j)) ex in
-      let type_is : ty ≡ type_in vs DINT X = et ∙ ap (λ j. type_in vs DINT (expr_at t p j)) ex in
-      record {
-        long = a.long ∙ d.long;
-        same = same_trans old mid new n d.same (same_less mid new v.count n a.same d.more);
-        goes = did.0;
-        is = λ ins s.
-            did.1
-            ∙ ap (assigning at cell w) (d.is ins)
-            ∙ ap (λ q. assigning q cell w (plain_of vs env ty (expr_at t p y))) at-is
-            ∙ ap₂ (λ u j. assigning (first_word X) cell w (plain_of vs env u (expr_at t p j))) type_is ey
-            ∙ sym (target _ (cell_given vs env (expr_at t p x) cell ec));
-      }
+    pub assign_did : (v : Part) → PlainDid t p tab env c.ty y old mid n (Ok v) → (q : ℕ) → q ≡ first_word (expr_at t p x)
+        → (new : List ℕ) (r : Result Walk Refusal) → AssignedDid mid new q cell w v r → n ≤ 4 * w → WalkDid vs (length env) old new n w (assign_at vs t p env i w) r
+    assign_did v d q eq new r a l =
+        let g = ends_of mid n d.own v d.parted in
+        let did = a.does n g.0 g.2 l d.part.more in
+        record {
+          long = a.long ∙ d.long;
+          same = same_trans old mid new n d.same (same_less mid new v.count n a.same d.part.more);
+          goes = did.0;
+          is = λ ins s.
+              did.1
+              ∙ ap (λ q. assigning q cell w (given g.0)) (eq ∙ ap (λ j. first_word (expr_at t p j)) ex)
+              ∙ right_side _ (sym g.1 ∙ d.is ins)
+              ∙ target _ (at.is ins);
+        }
 
 -- ---- in front of a list
 

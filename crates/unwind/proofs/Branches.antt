@@ -4,6 +4,9 @@ use mathlib.Core.List.{List}
 use Prim.Native.Nat.{ℕ, ◌+◌, ◌*◌, ◌≤◌}
 use native.Mathlib.Omega.{arith}
 use lib.ListN.{length}
+use Rattle.std.specs.Prelude.{Result, Ok, Err, IfOk}
+use Rattle.std.proofs.lemmas.Result.{IfOk-weaker}
+use Rattle.paper.specs.declared.Refusal.{Refusal}
 use Rattle.paper.specs.Refusals.{Answer, ◌>>=◌}
 use Rattle.paper.specs.Plain.{Expr, State}
 use Rattle.paper.specs.Unwinding.{Unwound}
@@ -15,20 +18,20 @@ use Rattle.unwind.specs.declared.lists.Walk.{Walk}
 use Rattle.unwind.specs.declared.cases.Selector.{Selector}
 use Rattle.unwind.specs.Walks.{said, Goes, UnwindDid, joining, JoinedDid}
 use Rattle.unwind.specs.Arms.{ArmsDid}
-use Rattle.unwind.proofs.Steps.{refused_then, given_then, list_later}
+use Rattle.unwind.proofs.Steps.{list_later}
 
 -- what a walk leaves beside its answer
-pub record Moves (env env₁ : State) (old new : List ℕ) (n w : ℕ) (r : Walk) : Type 0 where
+pub record Moves (env env₁ : State) (old new : List ℕ) (n w : ℕ) (r : Result Walk Refusal) : Type 0 where
   pub kept : env₁ ≡ env
   pub long : length new ≡ length old
   pub same : Same n old new
-  pub goes : r.code ≡ 0 → Goes n w r
+  pub goes : IfOk r (Goes n w)
 
-pub unwind_moves : {t p tab : List ℕ} {env env₁ : State} {old new : List ℕ} {i n w : ℕ} {r : Walk} → UnwindDid t p tab env env₁ old new i n w r
+pub unwind_moves : {t p tab : List ℕ} {env env₁ : State} {old new : List ℕ} {i n w : ℕ} {r : Result Walk Refusal} → UnwindDid t p tab env env₁ old new i n w r
     → Moves env env₁ old new n w r
 unwind_moves d = record { kept = d.kept; long = d.long; same = d.same; goes = d.goes }
 
-pub arms_moves : {t p tab : List ℕ} {env env₁ : State} {old new : List ℕ} {s : Selector} {i n w : ℕ} {r : Walk} → ArmsDid t p tab env env₁ old new s i n w r
+pub arms_moves : {t p tab : List ℕ} {env env₁ : State} {old new : List ℕ} {s : Selector} {i n w : ℕ} {r : Result Walk Refusal} → ArmsDid t p tab env env₁ old new s i n w r
     → Moves env env₁ old new n w r
 arms_moves d = record { kept = d.kept; long = d.long; same = d.same; goes = d.goes }
 
@@ -45,50 +48,36 @@ pub record Tried (old mid : List ℕ) (n w k c m : ℕ) : Type 0 where
 abbrev pub branched : ℕ → ℕ → Expr → (ℕ → Answer Unwound) → Answer Unwound → Answer Unwound
 branched size q x g o = o >>= λ a. g a.weight >>= λ b. joining size q x a.plain b.plain b.weight
 
-module _ {env : State} {old mid : List ℕ} {n w k c m : ℕ} (test : Tried old mid n w k c m) {env₁ : State} {mid₁ : List ℕ} {a : Walk}
-    (left : Moves env env₁ mid mid₁ k m a) where
-  to_left : Same n old mid₁
-  to_left = same_trans old mid mid₁ n test.same (same_less mid mid₁ k n left.same test.more)
+module _ {old mid : List ℕ} {n w k c m : ℕ} (test : Tried old mid n w k c m) where
+  to_left : (mid₁ : List ℕ) → Same k mid mid₁ → Same n old mid₁
+  to_left mid₁ h = same_trans old mid mid₁ n test.same (same_less mid mid₁ k n h test.more)
 
-  pub left_moves : (a.code ≡ 0 → ⊥) → Moves env env₁ old mid₁ n w a
-  left_moves bad = record { kept = left.kept; long = left.long ∙ test.long; same = to_left; goes = λ e. absurd (bad e) }
+  pub left_moves : {env env₁ : State} {mid₁ : List ℕ} {e : Refusal} → Moves env env₁ mid mid₁ k m (Err e) → Moves env env₁ old mid₁ n w (Err e)
+  left_moves left = record { kept = left.kept; long = left.long ∙ test.long; same = to_left _ left.same; goes = tt }
 
-  pub left_answers : (a.code ≡ 0 → ⊥) → (size q : ℕ) (x : Expr) (g : ℕ → Answer Unwound) → said mid₁ a ≡ branched size q x g (said mid₁ a)
-  left_answers bad size q x g = sym (refused_then mid₁ a bad _)
-
-  module _ (za : a.code ≡ 0) {env₂ : State} {mid₂ : List ℕ} {b : Walk} (right : Moves env₁ env₂ mid₁ mid₂ a.count a.weight b) where
+  module _ {env env₁ : State} {mid₁ : List ℕ} {a : Walk} (left : Moves env env₁ mid mid₁ k m (Ok a)) where
     goes_left : Goes k m a
-    goes_left = left.goes za
+    goes_left = left.goes
 
-    to_right : Same n old mid₂
-    to_right =
-        same_trans old mid₁ mid₂ n to_left (same_less mid₁ mid₂ a.count n right.same (omega (arith, test.more, goes_left.more)))
+    to_right : (mid₂ : List ℕ) → Same a.count mid₁ mid₂ → Same n old mid₂
+    to_right mid₂ h =
+        same_trans old mid₁ mid₂ n (to_left _ left.same) (same_less mid₁ mid₂ a.count n h (omega (arith, test.more, goes_left.more)))
 
-    pub right_moves : (b.code ≡ 0 → ⊥) → Moves env env₂ old mid₂ n w b
-    right_moves bad =
-        record {
-          kept = right.kept ∙ left.kept;
-          long = right.long ∙ left.long ∙ test.long;
-          same = to_right;
-          goes = λ e. absurd (bad e);
-        }
+    pub right_moves : {env₂ : State} {mid₂ : List ℕ} {e : Refusal} → Moves env₁ env₂ mid₁ mid₂ a.count a.weight (Err e) → Moves env env₂ old mid₂ n w (Err e)
+    right_moves right =
+        record { kept = right.kept ∙ left.kept; long = right.long ∙ left.long ∙ test.long; same = to_right _ right.same; goes = tt }
 
-    from_right : (size q : ℕ) (x : Expr) (g : ℕ → Answer Unwound) → g a.weight ≡ said mid₂ b
-        → branched size q x g (said mid₁ a) ≡ (said mid₂ b >>= λ y. joining size q x (list_at mid₁ a.root) y.plain y.weight)
-    from_right size q x g e =
-        given_then mid₁ a za _ ∙ ap (λ o. o >>= λ y. joining size q x (list_at mid₁ a.root) y.plain y.weight) e
+    pub right_answers : (mid₂ : List ℕ) (e : Refusal) (size q : ℕ) (x : Expr) (g : ℕ → Answer Unwound) → g a.weight ≡ said mid₂ (Err e)
+        → said mid₂ (Err e) ≡ branched size q x g (said mid₁ (Ok a))
+    right_answers mid₂ e size q x g h = sym (ap (λ o. o >>= λ y. joining size q x (list_at mid₁ a.root) y.plain y.weight) h)
 
-    pub right_answers : (b.code ≡ 0 → ⊥) → (size q : ℕ) (x : Expr) (g : ℕ → Answer Unwound) → g a.weight ≡ said mid₂ b
-        → said mid₂ b ≡ branched size q x g (said mid₁ a)
-    right_answers bad size q x g e = sym (from_right size q x g e ∙ refused_then mid₂ b bad _)
-
-    module _ (zb : b.code ≡ 0) {cells at : ℕ} {new : List ℕ} {r : Walk} (joined : JoinedDid mid₂ new cells at c a.root b r) where
+    module _ {env₂ : State} {mid₂ : List ℕ} {b : Walk} (right : Moves env₁ env₂ mid₁ mid₂ a.count a.weight (Ok b)) {cells at : ℕ} {new : List ℕ} {r : Result Walk Refusal}
+        (joined : JoinedDid mid₂ new cells at c a.root b r) where
       goes_right : Goes a.count a.weight b
-      goes_right = right.goes zb
+      goes_right = right.goes
 
-      joined_goes : r.code ≡ 0 → Goes n w r
-      joined_goes e =
-          let d = joined.good e in
+      joined_goes : (x : Walk) → (x.count ≡ b.count + 1) × (x.root ≡ x.count) × (b.weight ≤ x.weight) × (x.weight ≤ 3000) → Goes n w x
+      joined_goes x d =
           let ga = goes_left in
           let gb = goes_right in
           record {
@@ -104,9 +93,9 @@ module _ {env : State} {old mid : List ℕ} {n w k c m : ℕ} (test : Tried old 
           record {
             kept = right.kept ∙ left.kept;
             long = joined.long ∙ right.long ∙ left.long ∙ test.long;
-            same = same_trans old mid₂ new n to_right
+            same = same_trans old mid₂ new n (to_right _ right.same)
                 (same_less mid₂ new b.count n joined.same (omega (arith, test.more, goes_left.more, goes_right.more)));
-            goes = joined_goes;
+            goes = IfOk-weaker r _ _ joined_goes joined.good;
           }
 
       -- the test and the first list stand as they were
@@ -119,10 +108,10 @@ module _ {env : State} {old mid : List ℕ} {n w k c m : ℕ} (test : Tried old 
       left_later = list_later mid₁ mid₂ a.count a.root right.same goes_left.root
 
       pub joined_answers : (size q : ℕ) (x : Expr) (g : ℕ → Answer Unwound) → expr_at mid c ≡ x → cells ≡ length env₂ → length env ≡ size → at ≡ q
-          → g a.weight ≡ said mid₂ b → said new r ≡ branched size q x g (said mid₁ a)
+          → g a.weight ≡ said mid₂ (Ok b) → said new r ≡ branched size q x g (said mid₁ (Ok a))
       joined_answers size q x g ex ecells esize eat e =
           joined.is
           ∙ ap₂ (λ s y. joining s y (expr_at mid₂ c) (list_at mid₂ a.root) (list_at mid₂ b.root) b.weight)
           (ecells ∙ ap length (right.kept ∙ left.kept) ∙ esize) eat
           ∙ ap₂ (λ y l. joining size q y l (list_at mid₂ b.root) b.weight) (test_later ∙ ex) left_later
-          ∙ sym (from_right size q x g e ∙ given_then mid₂ b zb _)
+          ∙ sym (ap (λ o. o >>= λ y. joining size q x (list_at mid₁ a.root) y.plain y.weight) e)

@@ -6,19 +6,20 @@ use native.Mathlib.Omega.{arith}
 use lib.ListN.{length, get_or}
 use Rattle.paper.specs.declared.Ty.{Ty}
 use Rattle.paper.specs.declared.Ty.TheVariants.{Bool as BOOL, Int as INT, Uint as UINT, Dint as DINT, Udint as UDINT}
-use Rattle.paper.proofs.Whys.{code_pos}
-use Rattle.paper.specs.Refusals.{Answer, refused, given, ◌>>=◌}
+use Rattle.std.specs.Prelude.{Ok, Err}
+use Rattle.paper.specs.declared.Refusal.{Refusal}
+use Rattle.paper.specs.Refusals.{Answer, refused, given, refusal, Gives, ◌>>=◌}
 use Rattle.paper.specs.Types.{tag}
 use Rattle.paper.specs.Names.{Variable}
 use Rattle.paper.specs.Plain.{Expr, parts}
 use Rattle.tree.specs.Nodes.{Same, written}
 use Rattle.tree.specs.Trees.{types}
 use Rattle.tree.proofs.Decodes.{same_less, same_trans}
-use Rattle.tree.proofs.Puts.{written_length, written_same}
 use Rattle.plain.specs.Flat.{expr_at}
 use Rattle.plain.proofs.Frames.{expr_same}
 use Rattle.unwind.specs.declared.parts.Part.{Part}
-use Rattle.unwind.specs.Parts.{Holds, Emitted, Parted, PartDid, Wrapped}
+use Rattle.unwind.specs.Walks.{Spelt}
+use Rattle.unwind.specs.Parts.{Holds, Inside, Emitted, Ends, Parted, PartDid}
 
 -- a type by its number
 pub type_tag : (t : Ty) → get_or types (tag t) BOOL ≡ t
@@ -28,61 +29,54 @@ type_tag UINT = refl
 type_tag DINT = refl
 type_tag UDINT = refl
 
+-- ---- answers
+
+-- what is given is not refused
+pub given_refused : {P T E : Type 0} {v : T} {e : E} → Ok v ≡ Err e → P
+given_refused e = let z : ◌≡◌ {A = ℕ} 0 1 = cc in absurd (omega arith)
+
+pub ends_of : (new : List ℕ) (n : ℕ) (o : Answer Expr) (v : Part) → Parted new n o (Ok v) → (x : Expr) × (o ≡ given x) × Ends new n x v
+ends_of new n (refused w q) v h = given_refused h
+ends_of new n (given x) v h = (x, refl, h)
+
+-- and what is refused is not given
+pub refused_of : {A T : Type 0} (P : A → T → Type 0) (o : Answer A) (e : Refusal) → Gives P o (Err e) → o ≡ refused e.why e.place
+refused_of P (refused w q) e h = let same : e ≡ refusal w q = cc in sym (ap (λ e. refused e.why e.place) same)
+refused_of P (given x) e h = absurd h
+
 -- ---- one node
 
-module _ (old : List ℕ) (n k a b c : ℕ) where
-  pub emitted_put : (new : List ℕ) → new ≡ written old (n + 1) k a b c → Holds old (n + 1) → Emitted old new n k a b c (n + 1)
-  emitted_put new e h =
-      let l : length new ≡ length old = ap length e ∙ written_length old (n + 1) k a b c in
-      record {
-        more = omega arith;
-        most = omega arith;
-        holds = omega arith;
-        long = l;
-        same = subst (Same n old) (sym e) (written_same old (n + 1) k a b c n (omega arith));
-        wrote = λ g. (refl, e);
-      }
-
-  pub emitted_none : Holds old n → (Holds old (n + 1) → ⊥) → Emitted old old n k a b c n
-  emitted_none h non =
-      record {
-        more = omega arith;
-        most = omega arith;
-        holds = h;
-        long = refl;
-        same = λ j s. refl;
-        wrote = λ g. absurd (non g);
-      }
+pub spelt_one : (old new : List ℕ) (n k a b c r : ℕ) (x : Expr) → Emitted old new n k a b c r
+    → (Holds old (n + 1) → expr_at (written old (n + 1) k a b c) (n + 1) ≡ x) → Spelt old new n 1 x r
+spelt_one old new n k a b c r x e put =
+    record {
+      more = e.more;
+      most = e.most;
+      holds = e.holds;
+      long = e.long;
+      same = e.same;
+      ends = λ h. let w = e.wrote h in (w.0, ap₂ expr_at w.1 w.0 ∙ put h);
+    }
 
 -- ---- a leaf
 
-module _ (old new : List ℕ) (n k a b c m : ℕ) (e : Emitted old new n k a b c m) (r : Part) (good : r.code ≡ 0) (last : r.count ≡ m) (one : r.parts ≡ min 3001 1) where
-  leaf_parted : (x : Expr) → parts x ≡ 1 → (Holds old (n + 1) → expr_at (written old (n + 1) k a b c) (n + 1) ≡ x) → Parted new n (given x) r
-  leaf_parted x s put = (
-    good,
-    one ∙ ap (min 3001) (sym s),
-    λ h.
-        let f : Holds old (n + 1) = omega (arith, e.long) in
-        let w = e.wrote f in
-        let g : m ≡ n + 1 = w.0 in
-        let q : r.count ≡ n + 1 = last ∙ g in
-        (omega (arith, q), ap₂ expr_at w.1 q ∙ put f),
-  )
-
-  pub leaf_did : (vs : List Variable) (size : ℕ) (o : Answer Expr) (x : Expr) (u : Ty) → o ≡ given x → r.ty ≡ u → parts x ≡ 1
-      → (Holds old (n + 1) → expr_at (written old (n + 1) k a b c) (n + 1) ≡ x) → PartDid vs size old new n o u r
-  leaf_did vs size o x u eo eu s put =
-      record {
-        more = omega (arith, e.more);
-        holds = omega (arith, e.holds);
-        long = e.long;
-        same = e.same;
-        small = omega arith;
-        own = given x;
-        parted = leaf_parted x s put;
-        is = λ i. sym eo;
-        typed = λ z. eu;
-      }
+pub leaf_did : (old new : List ℕ) (n m : ℕ) (x : Expr) (r : Part) → Spelt old new n 1 x m → r.count ≡ m → r.parts ≡ min 3001 1 → parts x ≡ 1
+    → (vs : List Variable) (size : ℕ) (o : Answer Expr) (u : Ty) → (Inside size vs → o ≡ given x) → r.ty ≡ u → PartDid vs size old new n o u (Ok r)
+leaf_did old new n m x r e last one s vs size o u eo eu =
+    record {
+      long = e.long;
+      same = e.same;
+      part = record { more = omega (arith, e.more); holds = omega (arith, e.holds); small = omega arith; typed = eu };
+      own = given x;
+      parted = record {
+        counted = one ∙ ap (min 3001) (sym s);
+        ends = λ h.
+            let g = e.ends (omega (arith, e.long)) in
+            let end : m ≡ n + 1 = g.0 in
+            (omega arith, ap (expr_at new) last ∙ g.1);
+      };
+      is = λ i. sym (eo i);
+    }
 
 -- ---- an operator over one operand and over two
 
@@ -92,143 +86,124 @@ min_one a = omega arith
 min_two : (a b : ℕ) → min 3001 (min 3001 a + min 3001 b + 1) ≡ min 3001 (suc (a + b))
 min_two a b = omega arith
 
-module _ (mid new : List ℕ) (n k b c : ℕ) (x r : Part) (g : Expr → Expr) (size : (e : Expr) → parts (g e) ≡ suc (parts e))
-    (put : x.code ≡ 0 → (m : ℕ) → 0 < m → Holds mid m → x.count < m → expr_at (written mid m k x.count b c) m ≡ g (expr_at mid x.count)) where
-  one_parted : (o : Answer Expr) (u : Ty) → Parted mid n o x → Wrapped mid new k x.count b c (x.parts + 1) u x r
-      → Parted new n (o >>= λ e. given (g e)) r
-  one_parted (refused w q) u h d =
-      let non = d.bad (λ z. code_pos w (sym h.0 ∙ z)) in
-      (non.0 ∙ h.0, non.1 ∙ h.1)
-  one_parted (given e) u h d =
-      let got = d.good h.0 in (
-        got.1,
-        got.2 ∙ ap (λ p. min 3001 (p + 1)) h.1 ∙ min_one (parts e) ∙ ap (min 3001) (sym (size e)),
-        λ room.
-            let f : Holds mid (n + parts e) = omega (arith, d.long, size e) in
-            let before = h.2 f in
+module _ (mid new : List ℕ) (n k b c m : ℕ) (x r : Part) (emitted : Emitted mid new x.count k x.count b c m) (last : r.count ≡ m) (counted : r.parts ≡ min 3001 (x.parts + 1))
+    (g : Expr → Expr) (size : (e : Expr) → parts (g e) ≡ suc (parts e))
+    (put : (m : ℕ) → 0 < m → Holds mid m → x.count < m → expr_at (written mid m k x.count b c) m ≡ g (expr_at mid x.count)) where
+  wr : Emitted mid new x.count k x.count b c r.count
+  wr = subst (Emitted mid new x.count k x.count b c) (sym last) emitted
+
+  one_ends : (e : Expr) → Ends mid n e x → Ends new n (g e) r
+  one_ends e h =
+      record {
+        counted = counted ∙ ap (λ p. min 3001 (p + 1)) h.counted ∙ min_one (parts e) ∙ ap (min 3001) (sym (size e));
+        ends = λ room.
+            let f : Holds mid (n + parts e) = omega (arith, wr.long, size e) in
+            let before = h.ends f in
             let at : x.count ≡ n + parts e = before.0 in
-            let fits : Holds mid (x.count + 1) = omega (arith, d.long, size e) in
-            let wrote = got.0.wrote fits in
-            let last : r.count ≡ x.count + 1 = wrote.0 in (
-              omega (arith, last, at, size e),
-              ap₂ expr_at wrote.1 last ∙ put h.0 (x.count + 1) (omega arith) fits (omega arith) ∙ ap g before.1,
-            ),
-      )
+            let fits : Holds mid (x.count + 1) = omega (arith, wr.long, size e) in
+            let wrote = wr.wrote fits in
+            let end : r.count ≡ x.count + 1 = wrote.0 in (
+              omega (arith, end, at, size e),
+              ap₂ expr_at wrote.1 end ∙ put (x.count + 1) (omega arith) fits (omega arith) ∙ ap g before.1,
+            );
+      }
 
-module _ (first mid new : List ℕ) (n k c : ℕ) (x y r : Part) (g : Expr → Expr → Expr) (size : (d e : Expr) → parts (g d e) ≡ suc (parts d + parts e))
+  one_parted : (o : Answer Expr) → Parted mid n o (Ok x) → Parted new n (o >>= λ e. given (g e)) (Ok r)
+  one_parted (refused w q) h = given_refused h
+  one_parted (given e) h = one_ends e h
+
+  pub one_did : (vs : List Variable) (size : ℕ) (old : List ℕ) (o : Answer Expr) (u v : Ty) → r.ty ≡ v → PartDid vs size old mid n o u (Ok x)
+      → PartDid vs size old new n (o >>= λ e. given (g e)) v (Ok r)
+  one_did vs size old o u v ty d =
+      record {
+        long = wr.long ∙ d.long;
+        same = same_trans old mid new n d.same (same_less mid new x.count n wr.same d.part.more);
+        part = record { more = omega (arith, d.part.more, wr.more); holds = wr.holds; small = omega arith; typed = ty };
+        own = d.own >>= λ e. given (g e);
+        parted = one_parted d.own d.parted;
+        is = λ i. ap (λ a. a >>= λ e. given (g e)) (d.is i);
+      }
+
+module _ (first mid new : List ℕ) (n k c m : ℕ) (x y r : Part) (emitted : Emitted mid new y.count k x.count y.count c m) (last : r.count ≡ m)
+    (counted : r.parts ≡ min 3001 (x.parts + y.parts + 1))
+    (g : Expr → Expr → Expr) (size : (d e : Expr) → parts (g d e) ≡ suc (parts d + parts e))
     (put : (m : ℕ) → 0 < m → Holds mid m → x.count < m → y.count < m
-    → expr_at (written mid m k x.count y.count c) m ≡ g (expr_at mid x.count) (expr_at mid y.count))
-    (kept : Same x.count first mid) (long : length mid ≡ length first) (later : x.count ≤ y.count) where
-  two_parted : (o q : Answer Expr) (u : Ty) → Parted first n o x → x.code ≡ 0 → Parted mid x.count q y
-      → Wrapped mid new k x.count y.count c (x.parts + y.parts + 1) u y r → Parted new n (o >>= λ d. q >>= λ e. given (g d e)) r
-  two_parted (refused w at) q u h z i d = absurd (code_pos w (sym h.0 ∙ z))
-  two_parted (given l) (refused w at) u h z i d =
-      let non = d.bad (λ z. code_pos w (sym i.0 ∙ z)) in
-      (non.0 ∙ i.0, non.1 ∙ i.1)
-  two_parted (given l) (given e) u h z i d =
-      let got = d.good i.0 in (
-        got.1,
-        got.2 ∙ ap₂ (λ p q. min 3001 (p + q + 1)) h.1 i.1 ∙ min_two (parts l) (parts e) ∙ ap (min 3001) (sym (size l e)),
-        λ room.
-            let f : Holds first (n + parts l) = omega (arith, d.long, size l e) in
-            let before = h.2 f in
-            let at : x.count ≡ n + parts l = before.0 in
-            let f₂ : Holds mid (x.count + parts e) = omega (arith, d.long, size l e) in
-            let behind = i.2 f₂ in
-            let at₂ : y.count ≡ x.count + parts e = behind.0 in
-            let fits : Holds mid (y.count + 1) = omega (arith, d.long, size l e) in
-            let wrote = got.0.wrote fits in
-            let last : r.count ≡ y.count + 1 = wrote.0 in (
-              omega (arith, last, at, at₂, size l e),
-              ap₂ expr_at wrote.1 last
-                  ∙ put (y.count + 1) (omega arith) fits (omega arith) (omega arith)
-                  ∙ ap₂ g (expr_same first mid x.count x.count kept (omega arith) ∙ before.1) behind.1,
-            ),
-      )
+    → expr_at (written mid m k x.count y.count c) m ≡ g (expr_at mid x.count) (expr_at mid y.count)) where
+  over : Emitted mid new y.count k x.count y.count c r.count
+  over = subst (Emitted mid new y.count k x.count y.count c) (sym last) emitted
 
--- the first operand was refused
-pub stopped : (vs : List Variable) (size : ℕ) (old new : List ℕ) (n : ℕ) (o : Answer Expr) (f : Expr → Answer Expr) (u s : Ty) (x : Part)
-    → PartDid vs size old new n o u x → (x.code ≡ 0 → ⊥) → PartDid vs size old new n (o >>= f) s x
-stopped vs size old new n o f u s x d non =
-    record {
-      more = d.more;
-      holds = d.holds;
-      long = d.long;
-      same = d.same;
-      small = d.small;
-      own = d.own >>= f;
-      parted = go d.own d.parted;
-      is = λ i. ap (λ a. a >>= f) (d.is i);
-      typed = λ z. absurd (non z);
-    }
-  where
-    go : (o : Answer Expr) → Parted new n o x → Parted new n (o >>= f) x
-    go (refused w q) h = h
-    go (given e) h = absurd (non h.0)
+  module _ (kept : Same x.count first mid) (long : length mid ≡ length first) (later : x.count ≤ y.count) where
+    two_ends : (l e : Expr) → Ends first n l x → Ends mid x.count e y → Ends new n (g l e) r
+    two_ends l e h i =
+        record {
+          counted = counted ∙ ap₂ (λ p q. min 3001 (p + q + 1)) h.counted i.counted ∙ min_two (parts l) (parts e) ∙ ap (min 3001) (sym (size l e));
+          ends = λ room.
+              let f : Holds first (n + parts l) = omega (arith, over.long, size l e) in
+              let before = h.ends f in
+              let at : x.count ≡ n + parts l = before.0 in
+              let f₂ : Holds mid (x.count + parts e) = omega (arith, over.long, size l e) in
+              let behind = i.ends f₂ in
+              let at₂ : y.count ≡ x.count + parts e = behind.0 in
+              let fits : Holds mid (y.count + 1) = omega (arith, over.long, size l e) in
+              let wrote = over.wrote fits in
+              let end : r.count ≡ y.count + 1 = wrote.0 in (
+                omega (arith, end, at, at₂, size l e),
+                ap₂ expr_at wrote.1 end
+                    ∙ put (y.count + 1) (omega arith) fits (omega arith) (omega arith)
+                    ∙ ap₂ g (expr_same first mid x.count x.count kept (omega arith) ∙ before.1) behind.1,
+              );
+        }
 
-pub one_did : (vs : List Variable) (size : ℕ) (old mid new : List ℕ) (n k b c : ℕ) (x r : Part) (g : Expr → Expr) → ((e : Expr) → parts (g e) ≡ suc (parts e))
-    → (x.code ≡ 0 → (m : ℕ) → 0 < m → Holds mid m → x.count < m → expr_at (written mid m k x.count b c) m ≡ g (expr_at mid x.count))
-    → (o : Answer Expr) (u v q : Ty) → (x.code ≡ 0 → v ≡ q) → PartDid vs size old mid n o u x → Wrapped mid new k x.count b c (x.parts + 1) v x r
-    → PartDid vs size old new n (o >>= λ e. given (g e)) q r
-one_did vs size old mid new n k b c x r g s put o u v q ty d w =
-    record {
-      more = omega (arith, d.more, w.more);
-      holds = w.holds;
-      long = w.long ∙ d.long;
-      same = same_trans old mid new n d.same (same_less mid new x.count n w.same d.more);
-      small = w.small;
-      own = d.own >>= λ e. given (g e);
-      parted = one_parted mid new n k b c x r g s put d.own v d.parted w;
-      is = λ i. ap (λ a. a >>= λ e. given (g e)) (d.is i);
-      typed = λ z. (w.typed z).1 ∙ ty (w.typed z).0;
-    }
+    two_parted : (o q : Answer Expr) → Parted first n o (Ok x) → Parted mid x.count q (Ok y) → Parted new n (o >>= λ d. q >>= λ e. given (g d e)) (Ok r)
+    two_parted (refused w at) q h i = given_refused h
+    two_parted (given l) (refused w at) h i = given_refused i
+    two_parted (given l) (given e) h i = two_ends l e h i
 
-pub two_did : (vs : List Variable) (size : ℕ) (old first mid new : List ℕ) (n k c : ℕ) (x y r : Part) (g : Expr → Expr → Expr)
-    → ((d e : Expr) → parts (g d e) ≡ suc (parts d + parts e))
-    → ((m : ℕ) → 0 < m → Holds mid m → x.count < m → y.count < m
-    → expr_at (written mid m k x.count y.count c) m ≡ g (expr_at mid x.count) (expr_at mid y.count))
-    → (o q : Answer Expr) (t u v : Ty) → PartDid vs size old first n o t x → x.code ≡ 0 → PartDid vs size first mid x.count q u y
-    → Wrapped mid new k x.count y.count c (x.parts + y.parts + 1) v y r
-    → PartDid vs size old new n (o >>= λ d. q >>= λ e. given (g d e)) v r
-two_did vs size old first mid new n k c x y r g s put o q t u v d z i w =
-    record {
-      more = omega (arith, d.more, i.more, w.more);
-      holds = w.holds;
-      long = w.long ∙ i.long ∙ d.long;
-      same = same_trans old first new n d.same
-          (same_trans first mid new n (same_less first mid x.count n i.same d.more) (same_less mid new y.count n w.same (omega (arith, d.more, i.more))));
-      small = w.small;
-      own = d.own >>= λ l. i.own >>= λ e. given (g l e);
-      parted = two_parted first mid new n k c x y r g s put i.same i.long i.more d.own i.own v d.parted z i.parted w;
-      is = λ j. ap₂ (λ a b. a >>= λ l. b >>= λ e. given (g l e)) (d.is j) (i.is j);
-      typed = λ z. (w.typed z).1;
-    }
+  pub two_did : (vs : List Variable) (size : ℕ) (old : List ℕ) (o q : Answer Expr) (t u v : Ty) → r.ty ≡ v → PartDid vs size old first n o t (Ok x)
+      → PartDid vs size first mid x.count q u (Ok y) → PartDid vs size old new n (o >>= λ d. q >>= λ e. given (g d e)) v (Ok r)
+  two_did vs size old o q t u v ty d i =
+      record {
+        long = over.long ∙ i.long ∙ d.long;
+        same = same_trans old first new n d.same
+            (same_trans first mid new n (same_less first mid x.count n i.same d.part.more) (same_less mid new y.count n over.same (omega (arith, d.part.more, i.part.more))));
+        part = record { more = omega (arith, d.part.more, i.part.more, over.more); holds = over.holds; small = omega arith; typed = ty };
+        own = d.own >>= λ l. i.own >>= λ e. given (g l e);
+        parted = two_parted i.same i.long i.part.more d.own i.own d.parted i.parted;
+        is = λ j. ap₂ (λ a b. a >>= λ l. b >>= λ e. given (g l e)) (d.is j) (i.is j);
+      }
 
--- ---- what `wrapped` leaves
+-- ---- what was refused
 
-pub wrapped_bad : (old : List ℕ) (k a b c m : ℕ) (u : Ty) (y : Part) → Holds old y.count → y.parts ≤ 3001 → (y.code ≡ 0 → ⊥) → Wrapped old old k a b c m u y y
-wrapped_bad old k a b c m u y h l non =
-    record {
-      more = omega arith;
-      holds = h;
-      long = refl;
-      same = λ j s. refl;
-      small = l;
-      bad = λ z. (refl, refl);
-      good = λ z. absurd (non z);
-      typed = λ z. absurd (non z);
-    }
+-- where nothing was written
+pub refused_did : (vs : List Variable) (size : ℕ) (old : List ℕ) (n : ℕ) (o : Answer Expr) (u : Ty) (e : Refusal) → (Inside size vs → o ≡ refused e.why e.place)
+    → PartDid vs size old old n o u (Err e)
+refused_did vs size old n o u e h =
+    record { long = refl; same = λ j s. refl; part = tt; own = refused e.why e.place; parted = refl; is = λ ins. sym (h ins) }
 
-pub wrapped_good : (old new : List ℕ) (k a b c m s : ℕ) (u : Ty) (y r : Part) → Emitted old new y.count k a b c s → y.code ≡ 0
-    → r.code ≡ 0 → r.count ≡ s → r.parts ≡ min 3001 m → r.ty ≡ u → Wrapped old new k a b c m u y r
-wrapped_good old new k a b c m s u y r e got z q p ty =
-    record {
-      more = omega (arith, e.more);
-      holds = omega (arith, e.holds);
-      long = e.long;
-      same = e.same;
-      small = omega arith;
-      bad = λ non. absurd (non got);
-      good = λ g. (subst (Emitted old new y.count k a b c) (sym q) e, z, p);
-      typed = λ g. (got, ty);
-    }
+module _ {vs : List Variable} {size : ℕ} {n : ℕ} {o : Answer Expr} {u : Ty} {e : Refusal} where
+  -- whatever comes after it
+  pub stopped : {old new : List ℕ} (f : Expr → Answer Expr) (s : Ty) → PartDid vs size old new n o u (Err e) → PartDid vs size old new n (o >>= f) s (Err e)
+  stopped {old} {new} f s d =
+      record { long = d.long; same = d.same; part = tt; own = d.own >>= f; parted = go d.own d.parted; is = λ i. ap (λ a. a >>= f) (d.is i) }
+    where
+      go : (o : Answer Expr) → Parted new n o (Err e) → Parted new n (o >>= f) (Err e)
+      go (refused w q) h = h
+      go (given x) h = absurd h
+
+  -- behind a first that was given
+  pub stopped_second : {old first mid : List ℕ} {x : Part} {q : Answer Expr} {t : Ty} (g : Expr → Expr → Expr) (s : Ty) → PartDid vs size old first n o u (Ok x)
+      → PartDid vs size first mid x.count q t (Err e) → PartDid vs size old mid n (o >>= λ d. q >>= λ e. given (g d e)) s (Err e)
+  stopped_second {old} {first} {mid} {x} g s d i =
+      record {
+        long = i.long ∙ d.long;
+        same = same_trans old first mid n d.same (same_less first mid x.count n i.same d.part.more);
+        part = tt;
+        own = d.own >>= λ l. i.own >>= λ r. given (g l r);
+        parted = go d.own i.own d.parted i.parted;
+        is = λ j. ap₂ (λ a b. a >>= λ l. b >>= λ r. given (g l r)) (d.is j) (i.is j);
+      }
+    where
+      go : (o q : Answer Expr) → Parted first n o (Ok x) → Parted mid x.count q (Err e) → Parted mid n (o >>= λ d. q >>= λ e. given (g d e)) (Err e)
+      go (refused w a) q h i = given_refused h
+      go (given l) (refused w a) h i = i
+      go (given l) (given r) h i = absurd i

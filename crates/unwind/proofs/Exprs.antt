@@ -2,64 +2,30 @@
 use mathlib.Core.Path.{◌≡◌, refl, sym, ap, ◌∙◌}
 use mathlib.Core.Bool.{Bool, true, false}
 use mathlib.Core.List.{List}
-use Prim.Native.Nat.{ℕ, zero, suc, ◌-◌, ◌/◌, ◌%◌, ◌≤◌, ◌<◌}
+use Prim.Native.Nat.{ℕ, ◌-◌, ◌/◌, ◌%◌, ◌≤◌, ◌<◌}
 use native.Mathlib.Omega.{arith}
-use borrow.Author.Tests.{ltb-true, ltb-false, ne_eqb}
-use lib.Dec.{ltb}
+use borrow.Author.Tests.{ltb-true, ltb-false, eqb-true, eqb-false}
+use lib.Dec.{eqb, ltb}
 use lib.ListN.{get_or}
 use Rattle.paper.specs.declared.Ty.{Ty}
 use Rattle.paper.specs.declared.Ty.TheVariants.{Bool as BOOL, Dint as DINT}
 use Rattle.paper.specs.declared.Op.TheVariants.{Or}
 use Rattle.paper.specs.Refusals.{Answer, given, ◌>>=◌}
-use Rattle.paper.specs.Source as S
-use Rattle.paper.specs.Names.{Variable}
+use Rattle.paper.specs.Names as Names
 use Rattle.paper.specs.Heights.{first_word}
 use Rattle.paper.specs.Typing.{type_in, operand_type}
 use Rattle.paper.specs.Plain.{Expr, State, number, truth, read, minus, complement, binary, conversion}
 use Rattle.paper.specs.Unwinding.{bracket_of, cell_in, plain_of}
-use Rattle.tree.specs.Nodes.{word_of, kind_of}
+use Rattle.tree.specs.Nodes.{word_of, kind_of, child_of}
+use Rattle.tree.specs.Kinds.{IsExpression}
+use Rattle.tree.specs.declared.kinds.Expression.{Expression}
+use Rattle.tree.specs.declared.kinds.Expression.TheVariants.{Nothing, Number, Truth, Variable, Element, Minus, Complement, Brackets, Conversion, Binary}
+use Rattle.paper.specs.declared.Op.{Op}
 use Rattle.tree.specs.Trees.{types, operators, place_at, whole_at, number_form, expr_forms, expr_at}
-use Rattle.tree.proofs.Frames.{nil_form}
-use Rattle.unwind.specs.Parts.{offered_at}
-use Rattle.constants.proofs.Nodes.{first, second, expr_kind, expr_binary, expr_none, of_two}
+use Rattle.unwind.proofs.ByKind.{first, second, expr_kind, expr_binary, expr_none, of_two}
 
 module _ (t p : List ℕ) (i w : ℕ) (k : kind_of p i ≡ w) where
-  -- ---- the place of `[`
-
-  pub element_bracket : w ≡ 6 → word_of p i 2 ≡ bracket_of (expr_at t p i)
-  unfolding expr_forms
-  element_bracket e = sym (ap bracket_of (expr_kind t p i 6 _ (k ∙ e) refl))
-
-  pub nil_bracket : w ≡ 0 → 0 ≡ bracket_of (expr_at t p i)
-  unfolding expr_forms
-  nil_bracket e = sym (ap bracket_of (expr_kind t p i 0 _ (k ∙ e) refl))
-
-  pub none_bracket : 24 < w → 0 ≡ bracket_of (expr_at t p i)
-  none_bracket l = sym (ap bracket_of (expr_none t p i w k l))
-
-  one_bracket : (v : ℕ) → v < 11 → 0 < v → (v ≡ 6 → ⊥) → (x y : S.Expr) → bracket_of (get_or expr_forms v nil_form t p i x y) ≡ place_at p i
-  unfolding expr_forms
-  one_bracket zero l m s x y = absurd (omega arith)
-  one_bracket (suc zero) l m s x y = refl
-  one_bracket (suc (suc zero)) l m s x y = refl
-  one_bracket (suc (suc (suc zero))) l m s x y = refl
-  one_bracket (suc (suc (suc (suc zero)))) l m s x y = refl
-  one_bracket (suc (suc (suc (suc (suc zero))))) l m s x y = refl
-  one_bracket (suc (suc (suc (suc (suc (suc zero)))))) l m s x y = absurd (s refl)
-  one_bracket (suc (suc (suc (suc (suc (suc (suc zero))))))) l m s x y = refl
-  one_bracket (suc (suc (suc (suc (suc (suc (suc (suc zero)))))))) l m s x y = refl
-  one_bracket (suc (suc (suc (suc (suc (suc (suc (suc (suc zero))))))))) l m s x y = refl
-  one_bracket (suc (suc (suc (suc (suc (suc (suc (suc (suc (suc zero)))))))))) l m s x y = refl
-  one_bracket (suc (suc (suc (suc (suc (suc (suc (suc (suc (suc (suc v))))))))))) l m s x y = absurd (omega arith)
-
-  pub own_bracket : 0 < w → w < 25 → (w ≡ 6 → ⊥) → place_at p i ≡ bracket_of (expr_at t p i)
-  own_bracket l m s = go (ltb w 11) refl
-    where
-      go : (b : Bool) → ltb w 11 ≡ b → place_at p i ≡ bracket_of (expr_at t p i)
-      go true e = sym (ap bracket_of (expr_kind t p i w _ k refl) ∙ one_bracket w (ltb-true w 11 e) l s _ _)
-      go false e = let g : 11 ≤ w = omega (arith, ltb-false w 11 e) in sym (ap bracket_of (expr_binary t p i w k (omega arith) m))
-
-  module _ (vs : List Variable) (env : State) (u : Ty) where
+  module _ (vs : List Names.Variable) (env : State) (u : Ty) where
     abbrev plain : Answer Expr
     plain = plain_of vs env u (expr_at t p i)
 
@@ -77,21 +43,19 @@ module _ (t p : List ℕ) (i w : ℕ) (k : kind_of p i ≡ w) where
     unfolding expr_forms plain_of
     true_plain e = ap (plain_of vs env u) (expr_kind t p i 4 _ (k ∙ e) refl)
 
-    pub nil_plain : w ≡ 0 → plain ≡ given (truth false)
+    -- nil, FALSE, and what is no expression
+    pub false_plain : (0 < w → 2 < w) → (w ≡ 4 → ⊥) → (5 ≤ w → 24 < w) → plain ≡ given (truth false)
     unfolding expr_forms plain_of
-    nil_plain e = ap (plain_of vs env u) (expr_kind t p i 0 _ (k ∙ e) refl)
-
-    -- FALSE, and what is no expression
-    pub false_plain : 2 < w → (w ≡ 4 → ⊥) → (5 ≤ w → 24 < w) → plain ≡ given (truth false)
-    unfolding expr_forms plain_of
-    false_plain l non h = go (ltb w 5) refl
+    false_plain l non h = go (ltb w 5) refl (eqb w 0) refl
       where
-        go : (b : Bool) → ltb w 5 ≡ b → plain ≡ given (truth false)
-        go true e =
+        go : (a : Bool) → ltb w 5 ≡ a → (b : Bool) → eqb w 0 ≡ b → plain ≡ given (truth false)
+        go true e true f = ap (plain_of vs env u) (expr_kind t p i 0 _ (k ∙ eqb-true w 0 f) refl)
+        go true e false f =
             let m : w < 5 = ltb-true w 5 e in
+            let n : 2 < w = l (omega (arith, eqb-false w 0 f)) in
             let z : w ≡ 3 = omega arith in
             ap (plain_of vs env u) (expr_kind t p i 3 _ (k ∙ z) refl)
-        go false e = ap (plain_of vs env u) (expr_none t p i w k (h (omega (arith, ltb-false w 5 e))))
+        go false e b f = ap (plain_of vs env u) (expr_none t p i w k (h (omega (arith, ltb-false w 5 e))))
 
     pub read_plain : 4 < w → w < 7 → plain ≡ (cell_in vs env (expr_at t p i) >>= λ c. given (read c))
     unfolding expr_forms plain_of
@@ -130,46 +94,23 @@ module _ (t p : List ℕ) (i w : ℕ) (k : kind_of p i ≡ w) where
         ap (plain_of vs env u) (expr_binary t p i w k l m)
         ∙ ap (λ v. one v >>= λ x. plain_of vs env v (second t p i) >>= λ y. given (binary (get_or operators (w - 11) Or) v x y)) (sym e)
 
--- ---- the type offered to one operand
+-- ---- places
 
-pub offered_complement : (k w : ℕ) (t : Ty) → k ≡ 8 → DINT ≡ offered_at k w t
-offered_complement k w t e = rw e refl
+module _ (p : List ℕ) (i : ℕ) where
+  pub nil_bracket : IsExpression p i Nothing → (t : List ℕ) → 0 ≡ bracket_of (expr_at t p i)
+  nil_bracket v t = sym (ap bracket_of (v.tree t))
 
-pub offered_conversion : (k w : ℕ) (t : Ty) → k ≡ 10 → get_or types (w / 8) BOOL ≡ offered_at k w t
-offered_conversion k w t e = rw e refl
+  pub element_bracket : IsExpression p i Element → (t : List ℕ) → word_of p i 2 ≡ bracket_of (expr_at t p i)
+  element_bracket v t = sym (ap bracket_of (v.tree t))
 
-pub offered_same : (k w : ℕ) (t : Ty) → (k ≡ 8 → ⊥) → (k ≡ 10 → ⊥) → t ≡ offered_at k w t
-offered_same k w t a b = rw (ne_eqb k 8 a, ne_eqb k 10 b) refl
-
--- ---- the place of the first word
-
-module _ (t p : List ℕ) (i w : ℕ) (k : kind_of p i ≡ w) where
-  pub nil_word : w ≡ 0 → 0 ≡ first_word (expr_at t p i)
-  unfolding expr_forms first_word
-  nil_word e = sym (ap first_word (expr_kind t p i 0 _ (k ∙ e) refl))
-
-  pub none_word : 24 < w → 0 ≡ first_word (expr_at t p i)
-  unfolding first_word
-  none_word l = sym (ap first_word (expr_none t p i w k l))
-
-  one_word : (v : ℕ) → v < 11 → 0 < v → (x y : S.Expr) → first_word (get_or expr_forms v nil_form t p i x y) ≡ place_at p i
-  unfolding expr_forms first_word
-  one_word zero l m x y = absurd (omega arith)
-  one_word (suc zero) l m x y = refl
-  one_word (suc (suc zero)) l m x y = refl
-  one_word (suc (suc (suc zero))) l m x y = refl
-  one_word (suc (suc (suc (suc zero)))) l m x y = refl
-  one_word (suc (suc (suc (suc (suc zero))))) l m x y = refl
-  one_word (suc (suc (suc (suc (suc (suc zero)))))) l m x y = refl
-  one_word (suc (suc (suc (suc (suc (suc (suc zero))))))) l m x y = refl
-  one_word (suc (suc (suc (suc (suc (suc (suc (suc zero)))))))) l m x y = refl
-  one_word (suc (suc (suc (suc (suc (suc (suc (suc (suc zero))))))))) l m x y = refl
-  one_word (suc (suc (suc (suc (suc (suc (suc (suc (suc (suc zero)))))))))) l m x y = refl
-  one_word (suc (suc (suc (suc (suc (suc (suc (suc (suc (suc (suc v))))))))))) l m x y = absurd (omega arith)
-
-  pub own_word : 0 < w → w < 11 → place_at p i ≡ first_word (expr_at t p i)
-  own_word l m = sym (ap first_word (expr_kind t p i w _ k refl) ∙ one_word w m l _ _)
-
-  pub left_word : 10 < w → w < 25 → first_word (first t p i) ≡ first_word (expr_at t p i)
-  unfolding first_word
-  left_word l m = sym (ap first_word (expr_binary t p i w k l m))
+  pub own_bracket : (e : Expression) → IsExpression p i e → (e ≡ Nothing → ⊥) → (e ≡ Element → ⊥) → (t : List ℕ) → place_at p i ≡ bracket_of (expr_at t p i)
+  own_bracket Nothing v n b t = absurd (n refl)
+  own_bracket Number v n b t = sym (ap bracket_of (v.tree t))
+  own_bracket (Truth x) v n b t = sym (ap bracket_of (v.tree t))
+  own_bracket Variable v n b t = sym (ap bracket_of (v.tree t))
+  own_bracket Element v n b t = absurd (b refl)
+  own_bracket Minus v n b t = sym (ap bracket_of (v.tree t))
+  own_bracket Complement v n b t = sym (ap bracket_of (v.tree t))
+  own_bracket Brackets v n b t = sym (ap bracket_of (v.tree t))
+  own_bracket (Conversion x y) v n b t = sym (ap bracket_of (v.tree t))
+  own_bracket (Binary x) v n b t = sym (ap bracket_of (v.tree t))

@@ -1,4 +1,5 @@
 pub mod Emits
+pub mod ByKind
 pub mod Exprs
 pub mod Settling
 pub mod Insides
@@ -9,15 +10,14 @@ pub mod Tests
 pub mod Fronts
 pub mod Spells
 pub mod Numbers
+pub mod Values
 pub mod Heads
 pub mod ArmTests
-pub mod ByKind
 pub mod Steps
 pub mod Branches
 pub mod Choosing
 pub mod Arming
 pub mod Selecting
-pub mod Values
 pub mod Turning
 pub mod Repeating
 pub mod Programs

@@ -10,6 +10,8 @@ use Rattle.paper.specs.Unwinding.{no_selector, unwind}
 use Rattle.tree.specs.Nodes.{child_of}
 use Rattle.tree.specs.Trees as T
 use Rattle.variables.specs.Table.{listed_in}
+use Rattle.std.specs.Prelude.{Result}
+use Rattle.paper.specs.declared.Refusal.{Refusal}
 use Rattle.unwind.specs.declared.lists.Walk.{Walk}
 use Rattle.unwind.specs.Walks.{said, UnwindDid, ProgramDid}
 use Rattle.unwind.proofs.Fronts.{front_done}
@@ -30,10 +32,7 @@ zeros_length n = length-replicate n 0
 pub start : (n : ℕ) → n ≤ 64 → take n (zeros 64) ≡ zeros n
 start n l = take_zeros n 64 l
 
-pub start_length : (n : ℕ) → n ≤ 64 → length (take n (zeros 64)) ≡ n
-start_length n l = ap length (start n l) ∙ zeros_length n
-
-pub program_did : (t p tab : List ℕ) (cells i j : ℕ) (env env₁ : State) (old new : List ℕ) (r : Walk) → j ≡ child_of p i 2 → env ≡ zeros cells
+pub program_did : (t p tab : List ℕ) (cells i j : ℕ) (env env₁ : State) (old new : List ℕ) (r : Result Walk Refusal) → j ≡ child_of p i 2 → env ≡ zeros cells
     → UnwindDid t p tab env env₁ old new j 0 0 r → ProgramDid t p tab cells i old new r
 program_did t p tab cells i j env env₁ old new r ej e did =
     let d = subst (λ s. UnwindDid t p tab s env₁ old new j 0 0 r) e did in

@@ -10,8 +10,11 @@ use lib.ListN.{length, get_or, set}
 use lib.Seq.{set-get_or}
 use Rattle.paper.specs.declared.Cell.{Cell}
 use Rattle.paper.specs.declared.Ty.{Ty}
+use Rattle.std.specs.Prelude.{Result, Err, Some, None}
+use Rattle.std.proofs.lemmas.Result.{IfOk-weaker}
+use Rattle.paper.specs.declared.Refusal.{Refusal}
 use Rattle.paper.specs.declared.Why.TheVariants.{BadWalk}
-use Rattle.paper.specs.Refusals.{Answer, ◌>>=◌}
+use Rattle.paper.specs.Refusals.{Answer, refused, refusal, ◌>>=◌}
 use Rattle.paper.specs.Types.{encode}
 use Rattle.paper.specs.Source as S
 use Rattle.paper.specs.Source.{Name}
@@ -21,20 +24,19 @@ use Rattle.paper.specs.Plain.{State, store}
 use Rattle.paper.specs.Meaning as M
 use Rattle.paper.specs.Meaning.{passed, enough, cell_of_variable, whole_value}
 use Rattle.paper.specs.Unwinding.{Unwound, found, no_selector, turns, pass_of, looped, unwind}
-use Rattle.tree.specs.Nodes.{kind_of, child_of}
+use Rattle.tree.specs.Nodes.{child_of}
+use Rattle.tree.specs.Kinds.{IsStatement}
+use Rattle.tree.specs.declared.kinds.Statement.TheVariants as K
 use Rattle.tree.specs.Trees as T
 use Rattle.tree.specs.Trees.{place_at, name_at, front_forms}
-use Rattle.tree.proofs.Frames.{front_form, child_less}
-use Rattle.constants.specs.Answers as Answers
+use Rattle.tree.proofs.Frames.{child_less}
 use Rattle.variables.specs.Table.{listed_in}
 use Rattle.plain.proofs.Lists.{list_nil}
 use Rattle.unwind.specs.declared.lists.Walk.{Walk}
 use Rattle.unwind.specs.declared.loops.Head.{Head}
 use Rattle.unwind.specs.Parts.{Inside}
-use Rattle.unwind.specs.Walks.{said, Ready, Goes, setting, behind, Front, Walks, UnwindDid}
-use Rattle.unwind.specs.Loops.{Small, Worked, head_in, head_at, cell_of_head, worked, HeadDid, SetDid, turns_from, TurnsReady, TurnsDid}
-use Rattle.unwind.proofs.Parting.{kind_word}
-use Rattle.unwind.proofs.Walking.{said_bad}
+use Rattle.unwind.specs.Walks.{said, Goes, setting, behind, Front, Walks, UnwindDid}
+use Rattle.unwind.specs.Loops.{Worked, head_in, head_at, cell_of_head, worked, Stands, HeadDid, SetDid, turns_from, TurnsReady, TurnsDid}
 use Rattle.unwind.proofs.Fronts.{behind_none, front_as, front_is}
 use Rattle.unwind.proofs.Values.{back, back_small}
 
@@ -88,7 +90,7 @@ module _ (q : ℕ) (t : Ty) (cell : Cell) (body : ℤ → ℕ → Answer Unwound
 
 -- ---- at a node
 
-module _ {t p tab : List ℕ} {env : State} {i : ℕ} {h : Head} (d : HeadDid t p tab env i h) (old : List ℕ) (n w : ℕ) (there : 0 < i) (kind : kind_of p i ≡ 43) where
+module _ (t p tab : List ℕ) (env : State) (i : ℕ) (old : List ℕ) (n w : ℕ) (kind : IsStatement p i K.Loop) where
   abbrev vs : List Variable
   vs = listed_in t p tab
 
@@ -99,51 +101,48 @@ module _ {t p tab : List ℕ} {env : State} {i : ℕ} {h : Head} (d : HeadDid t 
   own = loop_of vs env (place_at p i) body w
 
   head_front : (o : Option Worked) (r : Answer Unwound) → o ≡ head_at t p tab env i → own o ≡ r → Front vs env (T.front_at t p i) w r
-  unfolding front_forms
   head_front o r e q =
       let j = child_of p i 1 in
       let g = child_of p j 1 in
       front_is vs env (T.front_at t p i) w _ r (ap own (sym e) ∙ q)
-      (front_as vs env _ (T.front_at t p i) w _ (λ k. front_form t p i 43 _ k there (kind_word p i there ∙ kind) refl)
+      (front_as vs env _ (T.front_at t p i) w _ (kind.list t)
       (loop_front_lem vs env (place_at p i) body w (place_at p j) (name_at t (place_at p j)) (T.expr_at t p (child_of p g 1)) (T.expr_at t p (child_of p g 2)) (T.expr_at t p (child_of p j 2))))
 
   -- 8 at the FOR
-  pub no_head : {r : Walk} → h.some ≡ false → r.code ≡ 8 → r.at ≡ h.place → UnwindDid t p tab env env old old i n w r
-  no_head {r} e ec ea =
+  pub no_head : HeadDid t p tab env i None → (q : ℕ) → q ≡ place_at p i → UnwindDid t p tab env env old old i n w (Err (refusal BadWalk q))
+  no_head d q eq =
       record {
         kept = refl;
         long = refl;
         same = λ j s. refl;
-        goes = λ z. absurd (omega arith);
-        front = λ ins size.
-            head_front none (said old r) (ap (λ b. Answers.given b (worked h)) (sym e) ∙ d.is ins)
-            (sym (said_bad old r BadWalk (place_at p i) ec (ea ∙ d.place)));
+        goes = tt;
+        front = λ ins size. head_front none _ (d.is ins) (ap (refused BadWalk) (sym eq));
       }
 
-  module _ (good : h.some ≡ true) where
+  module _ {h : Head} (d : HeadDid t p tab env i (Some h)) where
+    stands : Stands (place_at p i) (length env) h
+    stands = d.stands
+
     abbrev bodies : ℤ → ℕ → Answer Unwound
     bodies z m = unwind vs body (store (cell_of_head h) (encode h.ty z) env) no_selector m
 
     loop_did : (r : Answer Unwound) → Inside (length env) vs
         → looped h.place h.ty (cell_of_head h) bodies h.by h.to h.from w ≡ r → Front vs env (T.front_at t p i) w r
     loop_did r ins q =
-        head_front (some (worked h)) r (ap (λ b. Answers.given b (worked h)) (sym good) ∙ d.is ins)
-        (ap (λ at. looped at h.ty (cell_of_head h) bodies h.by h.to h.from w) (sym d.place) ∙ q)
+        head_front (some (worked h)) r (d.is ins)
+        (ap (λ at. looped at h.ty (cell_of_head h) bodies h.by h.to h.from w) (sym stands.place) ∙ q)
 
     from_back : back h.from ≡ h.from
-    from_back = back_small h.from (d.small good).1
+    from_back = back_small h.from stands.small.1
 
     at_once : (e : Bool) → passed (back h.by) (back h.to) (back h.from) ≡ e → passed h.by h.to h.from ≡ e
     at_once e k =
-        sym (ap (λ c. passed c h.to h.from) (back_small h.by (d.small good).0))
-        ∙ sym (ap₂ (passed (back h.by)) (back_small h.to (d.small good).2) from_back)
+        sym (ap (λ c. passed c h.to h.from) (back_small h.by stands.small.0))
+        ∙ sym (ap₂ (passed (back h.by)) (back_small h.to stands.small.2) from_back)
         ∙ k
 
-    pub set_once : Walks p env old i n w → Small (back h.from) × (h.cell < 64) × Ready old n w
-    set_once r = (rw from_back (d.small good).1, omega (arith, d.inside good, r.3), r.2)
-
     -- no pass: one assignment
-    pub no_pass : {new : List ℕ} {r : Walk} → passed (back h.by) (back h.to) (back h.from) ≡ true
+    pub no_pass : {new : List ℕ} {r : Result Walk Refusal} → passed (back h.by) (back h.to) (back h.from) ≡ true
         → SetDid old new h (back h.from) n w r → UnwindDid t p tab env env old new i n w r
     no_pass {new} {r} e d' =
         let s = subst (λ z. SetDid old new h z n w r) from_back d' in
@@ -151,59 +150,59 @@ module _ {t p tab : List ℕ} {env : State} {i : ℕ} {h : Head} (d : HeadDid t 
           kept = refl;
           long = s.long;
           same = s.same;
-          goes = λ z. went (s.good z);
+          goes = IfOk-weaker r _ _ went s.good;
           front = λ ins size.
               loop_did (said new r) ins
-              (looped_set h.place h.ty (cell_of_head h) bodies h.by h.to h.from w (d.steps good) (at_once true e) ∙ sym s.is);
+              (looped_set h.place h.ty (cell_of_head h) bodies h.by h.to h.from w stands.steps (at_once true e) ∙ sym s.is);
         }
       where
-        went : (r.count ≡ n + 2) × (r.root ≡ n + 2) × (r.weight ≡ w + 1) × (w < 3000) → Goes n w r
-        went g = record { more = omega arith; root = omega arith; heavy = omega arith; light = omega arith; grown = omega arith }
+        went : (x : Walk) → (x.count ≡ n + 2) × (x.root ≡ n + 2) × (x.weight ≡ w + 1) × (w < 3000) → Goes n w x
+        went x g = record { more = omega arith; root = omega arith; heavy = omega arith; light = omega arith; grown = omega arith }
 
     module _ (c : ℕ) (ec : c ≡ child_of p i 2) (within : passed (back h.by) (back h.to) (back h.from) ≡ false) where
       pub passes_fall : 4194304 * (3001 - w) + 32 * c < 4194304 * (3001 - w) + 32 * i
-      passes_fall = omega (arith, child_less p i 2 there)
+      passes_fall = omega (arith, child_less p i 2 kind.some)
 
       pub passes_ready : Walks p env old i n w → TurnsReady p env old h (back h.from) c n w 0
       passes_ready r =
-          let low = child_less p i 2 there in
+          let low = child_less p i 2 kind.some in
           subst (λ z. TurnsReady p env old h z c n w 0) (sym from_back)
           (record {
             pool = omega (arith, r.0, low, ec);
             low = omega (arith, r.1, low, ec);
             cells = r.3;
-            inside = d.inside good;
-            steps = d.steps good;
-            small = d.small good;
+            inside = stands.inside;
+            steps = stands.steps;
+            small = stands.small;
             within = at_once false within;
             first = omega arith;
             ready = (omega (arith, r.2.0), r.2.1, r.2.2, r.2.3);
           })
 
       -- the passes, and the variable's own value in the environment again
-      pub all_passes : {env' : State} {new : List ℕ} {r : Walk} → TurnsDid t p tab env env' old new h (back h.from) c n w 0 r
+      pub all_passes : {env' : State} {new : List ℕ} {r : Result Walk Refusal} → TurnsDid t p tab env env' old new h (back h.from) c n w 0 r
           → UnwindDid t p tab env (set env' h.cell (get_or env h.cell 0)) old new i n w r
       all_passes {env'} {new} {r} did =
           record {
             kept = s.only (get_or env h.cell 0) ∙ set-get_or env h.cell 0;
             long = s.long;
             same = s.same;
-            goes = λ z. went (s.goes z);
+            goes = IfOk-weaker r _ _ went s.goes;
             front = λ ins size. loop_did (said new r) ins (said_all ins size);
           }
         where
           s : TurnsDid t p tab env env' old new h h.from c n w 0 r
           s = subst (λ z. TurnsDid t p tab env env' old new h z c n w 0 r) from_back did
 
-          went : Goes (n + min 1 0) w r → Goes n w r
-          went g =
+          went : (x : Walk) → Goes (n + min 1 0) w x → Goes n w x
+          went x g =
               record { more = omega (arith, g.more); root = g.root; heavy = g.heavy; light = g.light; grown = omega (arith, g.grown) }
 
           said_all : Inside (length env) vs → length env ≡ length (cells_of vs)
               → looped h.place h.ty (cell_of_head h) bodies h.by h.to h.from w ≡ said new r
           said_all ins size =
               let f = enough h.from h.to in
-              looped_turns h.place h.ty (cell_of_head h) bodies h.by h.to h.from w (d.steps good) (at_once false within)
+              looped_turns h.place h.ty (cell_of_head h) bodies h.by h.to h.from w stands.steps (at_once false within)
               ∙ sym (s.turned ins size f (omega arith)
               ∙ ap (λ k. behind (record { plain = k; weight = w }) (turns_from t p tab env h c f h.from w)) (list_nil old)
               ∙ behind_none w (turns_from t p tab env h c f h.from w)

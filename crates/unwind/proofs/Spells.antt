@@ -26,22 +26,8 @@ use Rattle.unwind.specs.declared.cases.Selector.{Selector}
 use Rattle.unwind.specs.Parts.{Holds, Emitted}
 use Rattle.unwind.specs.Walks.{Spelt, selects, compared_with, label_nodes, nodes_of, or_nodes, tests_nodes}
 use Rattle.tree.proofs.Frames.{labels_nil}
-use Rattle.unwind.proofs.Emits.{type_tag}
+use Rattle.unwind.proofs.Emits.{type_tag, spelt_one}
 use Rattle.unwind.proofs.Tests.{labels_at_lem, labels_some, tests_first, tests_more}
-
--- ---- one node
-
-pub spelt_one : (old new : List ℕ) (n k a b c r : ℕ) (x : Expr) → Emitted old new n k a b c r
-    → (Holds old (n + 1) → expr_at (written old (n + 1) k a b c) (n + 1) ≡ x) → Spelt old new n 1 x r
-spelt_one old new n k a b c r x e put =
-    record {
-      more = e.more;
-      most = e.most;
-      holds = e.holds;
-      long = e.long;
-      same = e.same;
-      ends = λ h. let w = e.wrote h in (w.0, ap₂ expr_at w.1 w.0 ∙ put h);
-    }
 
 -- one more behind an expression
 pub spelt_more : (old mid new : List ℕ) (n m s k a b c r : ℕ) (y x : Expr) → Spelt old mid n m y s → Emitted mid new s k a b c r
@@ -60,23 +46,6 @@ spelt_more old mid new n m s k a b c r y x d e put =
           let w = e.wrote room in
           let last : r ≡ s + 1 = w.0 in
           (omega arith, ap₂ expr_at w.1 last ∙ put room before.1);
-    }
-
--- one expression behind another: the second counts from the first's last node on
-pub spelt_both : (old mid new : List ℕ) (n m s l r : ℕ) (y x : Expr) → Spelt old mid n m y s → Spelt mid new s l x r → Spelt old new n (m + l) x r
-spelt_both old mid new n m s l r y x d e =
-    record {
-      more = omega (arith, d.more, e.more);
-      most = omega (arith, d.most, e.most);
-      holds = e.holds;
-      long = e.long ∙ d.long;
-      same = same_trans old mid new n d.same (same_less mid new s n e.same d.more);
-      ends = λ h.
-          let before = d.ends (omega arith) in
-          let at : s ≡ n + m = before.0 in
-          let behind = e.ends (omega (arith, d.long)) in
-          let last : r ≡ s + l = behind.0 in
-          (omega arith, behind.1);
     }
 
 -- ---- a number
@@ -113,14 +82,14 @@ put_operator p m k a b c t l h ec s f x y =
     ∙ put_binary p m a b c s f (k - 11) (omega arith) x y
     ∙ ap (λ u. binary (get_or operators (k - 11) Or) u (expr_at p a) (expr_at p b)) (ap (λ m. get_or types m BOOL) ec ∙ type_tag t)
 
-pub spelt_compared : (old mid new : List ℕ) (p : List ℕ) (n s k c r i : ℕ) (sel : Selector) → sel.root ≤ n → 10 < k → k < 25 → c ≡ tag sel.ty
-    → Spelt old mid n 1 (number sel.ty (whole_at p i)) s → Emitted mid new s k sel.root s c r → Spelt old new n 2 (compared_with old p sel k i) r
-spelt_compared old mid new p n s k c r i sel l lo hi ec d e =
-    spelt_more old mid new n 1 s k sel.root s c r _ _ d e
+pub spelt_compared : (old mid new : List ℕ) (p : List ℕ) (n s k c r i : ℕ) (sel : Selector) (root : ℕ) → root ≤ n → 10 < k → k < 25 → c ≡ tag sel.ty
+    → Spelt old mid n 1 (number sel.ty (whole_at p i)) s → Emitted mid new s k root s c r → Spelt old new n 2 (compared_with old p sel root k i) r
+spelt_compared old mid new p n s k c r i sel root l lo hi ec d e =
+    spelt_more old mid new n 1 s k root s c r _ _ d e
     (λ f h.
-    let x : sel.root < s + 1 = omega (arith, d.more) in
-    put_operator mid (s + 1) k sel.root s c sel.ty lo hi ec (omega arith) f x (omega arith)
-    ∙ ap₂ (binary (get_or operators (k - 11) Or) sel.ty) (expr_same old mid n sel.root d.same l) h)
+    let x : root < s + 1 = omega (arith, d.more) in
+    put_operator mid (s + 1) k root s c sel.ty lo hi ec (omega arith) f x (omega arith)
+    ∙ ap₂ (binary (get_or operators (k - 11) Or) sel.ty) (expr_same old mid n root d.same l) h)
 
 -- two expressions, and the operator of the kind k over them, on BOOL
 spelt_joined : (old m₁ m₂ new : List ℕ) (n u v a b r : ℕ) (low high : Expr) (k : ℕ) → 10 < k → k < 25 → Spelt old m₁ n u low a → Spelt m₁ m₂ a v high b
@@ -150,21 +119,17 @@ spelt_joined old m₁ m₂ new n u v a b r low high k lo hi d₁ d₂ e =
 
 -- ---- a label
 
-module _ (p : List ℕ) (i : ℕ) (sel : Selector) (old : List ℕ) (n : ℕ) (inside : sel.root ≤ n) where
-  pub spelt_single : (new : List ℕ) (k r : ℕ) → k ≡ word_of p i 0 → (k ≡ 31 → ⊥) → Spelt old new n 2 (compared_with old p sel 20 i) r
-      → Spelt old new n (label_nodes p i) (test_of (selects old sel) (label_at p i)) r
-  spelt_single new k r ek h d = rw (ne_eqb (word_of p i 0) 31 (λ z. h (ek ∙ z))) d
-
-  pub spelt_range : (m₁ m₂ new : List ℕ) (k a b x y r : ℕ) → k ≡ word_of p i 0 → k ≡ 31 → x ≡ child_of p i 1 → y ≡ child_of p i 2
-      → Spelt old m₁ n 2 (compared_with old p sel 19 x) a → Spelt m₁ m₂ a 2 (compared_with m₁ p sel 18 y) b → Emitted m₂ new b 22 a b 0 r
-      → Spelt old new n (label_nodes p i) (test_of (selects old sel) (label_at p i)) r
-  spelt_range m₁ m₂ new k a b x y r ek h ex ey d₁ d₂ e =
-      let low = compared_with old p sel 19 x in
-      let high = compared_with old p sel 18 y in
-      let moved : compared_with m₁ p sel 18 y ≡ high =
-      ap (λ s. binary Le sel.ty s (number sel.ty (whole_at p y))) (expr_same old m₁ n sel.root d₁.same inside) in
+module _ (p : List ℕ) (i : ℕ) (sel : Selector) (root : ℕ) (old : List ℕ) (n : ℕ) (inside : root ≤ n) where
+  pub spelt_range : (m₁ m₂ new : List ℕ) (a b x y r : ℕ) → eqb (word_of p i 0) 31 ≡ true → x ≡ child_of p i 1 → y ≡ child_of p i 2
+      → Spelt old m₁ n 2 (compared_with old p sel root 19 x) a → Spelt m₁ m₂ a 2 (compared_with m₁ p sel root 18 y) b → Emitted m₂ new b 22 a b 0 r
+      → Spelt old new n (label_nodes p i) (test_of (selects old sel root) (label_at p i)) r
+  spelt_range m₁ m₂ new a b x y r h ex ey d₁ d₂ e =
+      let low = compared_with old p sel root 19 x in
+      let high = compared_with old p sel root 18 y in
+      let moved : compared_with m₁ p sel root 18 y ≡ high =
+      ap (λ s. binary Le sel.ty s (number sel.ty (whole_at p y))) (expr_same old m₁ n root d₁.same inside) in
       let all : Spelt old new n 5 (binary And BOOL low high) r = spelt_joined old m₁ m₂ new n 2 2 a b r low high 22 (omega arith) (omega arith) d₁ (subst (λ z. Spelt m₁ m₂ a 2 z b) moved d₂) e in
-      rw (eq-eqb (word_of p i 0) 31 (sym ek ∙ h), ← ex, ← ey) all
+      rw (h, ← ex, ← ey) all
 
 -- ---- labels joined by OR
 
@@ -196,29 +161,29 @@ module _ (p : List ℕ) (i : ℕ) (some : 0 < i) where
       (λ m ls. or_nodes_lem (nodes_of m) ls (label_at p (child_of p i 2)))
       ∙ ap (λ n. tests_nodes (labels_at p (child_of p i 1)) + n + 1) (sym (label_nodes_lem p (child_of p i 2)))
 
-  module _ (sel : Selector) (old : List ℕ) (n : ℕ) (inside : sel.root ≤ n) where
+  module _ (sel : Selector) (root : ℕ) (old : List ℕ) (n : ℕ) (inside : root ≤ n) where
     pub tests_single : (new : List ℕ) (x y r : ℕ) → x ≡ child_of p i 1 → x ≡ 0 → y ≡ child_of p i 2
-        → Spelt old new n (label_nodes p y) (test_of (selects old sel) (label_at p y)) r
-        → Spelt old new n (tests_nodes (labels_at p i)) (tests_of (selects old sel) (labels_at p i)) r
+        → Spelt old new n (label_nodes p y) (test_of (selects old sel root) (label_at p y)) r
+        → Spelt old new n (tests_nodes (labels_at p i)) (tests_of (selects old sel root) (labels_at p i)) r
     tests_single new x y r ex e ey d =
-        rw (nodes_first (sym ex ∙ e), tests_first (selects old sel) p i some (sym ex ∙ e))
-        (subst (λ y. Spelt old new n (label_nodes p y) (test_of (selects old sel) (label_at p y)) r) ey d)
+        rw (nodes_first (sym ex ∙ e), tests_first (selects old sel root) p i some (sym ex ∙ e))
+        (subst (λ y. Spelt old new n (label_nodes p y) (test_of (selects old sel root) (label_at p y)) r) ey d)
 
     pub tests_joined : (m₁ m₂ new : List ℕ) (x y a b r : ℕ) → x ≡ child_of p i 1 → 0 < x → y ≡ child_of p i 2
-        → Spelt old m₁ n (tests_nodes (labels_at p x)) (tests_of (selects old sel) (labels_at p x)) a
-        → Spelt m₁ m₂ a (label_nodes p y) (test_of (selects m₁ sel) (label_at p y)) b
-        → Emitted m₂ new b 24 a b 0 r → Spelt old new n (tests_nodes (labels_at p i)) (tests_of (selects old sel) (labels_at p i)) r
+        → Spelt old m₁ n (tests_nodes (labels_at p x)) (tests_of (selects old sel root) (labels_at p x)) a
+        → Spelt m₁ m₂ a (label_nodes p y) (test_of (selects m₁ sel root) (label_at p y)) b
+        → Emitted m₂ new b 24 a b 0 r → Spelt old new n (tests_nodes (labels_at p i)) (tests_of (selects old sel root) (labels_at p i)) r
     tests_joined m₁ m₂ new x y a b r ex l ey d₁ d₂ e =
-        let moved : test_of (selects m₁ sel) (label_at p y) ≡ test_of (selects old sel) (label_at p y) =
-        ap (λ s. test_of (record { place = sel.place; plain = s; ty = sel.ty }) (label_at p y)) (expr_same old m₁ n sel.root d₁.same inside) in
+        let moved : test_of (selects m₁ sel root) (label_at p y) ≡ test_of (selects old sel root) (label_at p y) =
+        ap (λ s. test_of (record { place = sel.place; plain = s; ty = sel.ty }) (label_at p y)) (expr_same old m₁ n root d₁.same inside) in
         let s : 0 < child_of p i 1 = subst (λ j. 0 < j) ex l in
-        rw (nodes_more s, tests_more (selects old sel) p i some s)
+        rw (nodes_more s, tests_more (selects old sel root) p i some s)
         (spelt_joined old m₁ m₂ new n _ _ a b r _ _ 24 (omega arith) (omega arith)
-        (subst (λ x. Spelt old m₁ n (tests_nodes (labels_at p x)) (tests_of (selects old sel) (labels_at p x)) a) ex d₁)
-        (subst (λ y. Spelt m₁ m₂ a (label_nodes p y) (test_of (selects old sel) (label_at p y)) b) ey (subst (λ z. Spelt m₁ m₂ a (label_nodes p y) z b) moved d₂)) e)
+        (subst (λ x. Spelt old m₁ n (tests_nodes (labels_at p x)) (tests_of (selects old sel root) (labels_at p x)) a) ex d₁)
+        (subst (λ y. Spelt m₁ m₂ a (label_nodes p y) (test_of (selects old sel root) (label_at p y)) b) ey (subst (λ z. Spelt m₁ m₂ a (label_nodes p y) z b) moved d₂)) e)
 
-pub tests_none : (p : List ℕ) (i : ℕ) (sel : Selector) (old new : List ℕ) (n r : ℕ) → i ≡ 0 → Emitted old new n 3 0 0 0 r
-    → Spelt old new n (tests_nodes (labels_at p i)) (tests_of (selects old sel) (labels_at p i)) r
+pub tests_none : (p : List ℕ) (i : ℕ) (sel : Selector) (root : ℕ) (old new : List ℕ) (n r : ℕ) → i ≡ 0 → Emitted old new n 3 0 0 0 r
+    → Spelt old new n (tests_nodes (labels_at p i)) (tests_of (selects old sel root) (labels_at p i)) r
 unfolding tests_nodes tests_of
-tests_none p i sel old new n r e d =
+tests_none p i sel root old new n r e d =
     rw (ap (labels_at p) e ∙ labels_nil p) (spelt_one old new n 3 0 0 0 r _ d (λ f. put_truth old (n + 1) 0 0 0 (omega arith) f false))

@@ -2,9 +2,8 @@
 use mathlib.Core.Path.{◌≡◌, refl, sym, ap, ◌∙◌}
 use mathlib.Core.Bool.{Bool, true, false, cond}
 use mathlib.Core.List.{List, [], ◌∷◌, ◌++◌}
-use Prim.Native.Nat.{ℕ, suc, ◌+◌, ◌*◌, ◌≤◌, ◌<◌, min}
+use Prim.Native.Nat.{ℕ, suc, ◌+◌, ◌*◌, ◌<◌, min}
 use native.Mathlib.Omega.{arith}
-use borrow.Author.Tests.{eq-eqb, ne_eqb}
 use lib.Dec.{eqb}
 use Rattle.paper.specs.declared.Ty.TheVariants.{Bool as BOOL}
 use Rattle.paper.specs.declared.Op.TheVariants.{Or}
@@ -99,15 +98,3 @@ module _ (p : List ℕ) (n i : ℕ) where
           let size : min 3001 (m + k + 1) ≡ min 3001 (suc (parts (tests_of s (labels_at p (child_of p i 1))) + parts (test_of s (label_at p (child_of p i 2))))) = omega (arith, a, b) in
           er ∙ size ∙ ap (λ x. min 3001 (parts x)) (sym (tests_more s p i some l)),
     )
-
--- ---- one label
-
-pub range_parts : (w k n : ℕ) → k ≡ w → k ≡ 31 → 2 * n + 5 ≡ cond (eqb w 31) (2 * n + 5) (n + 2)
-range_parts w k n e h = sym (ap (λ b. cond b (2 * n + 5) (n + 2)) (eq-eqb w 31 (sym e ∙ h)))
-
-pub one_parts : (w k n : ℕ) → k ≡ w → (k ≡ 31 → ⊥) → n + 2 ≡ cond (eqb w 31) (2 * n + 5) (n + 2)
-one_parts w k n e h = sym (ap (λ b. cond b (2 * n + 5) (n + 2)) (ne_eqb w 31 (λ z. h (e ∙ z))))
-
-pub part_most : (b : Bool) (k n : ℕ) → k ≡ cond b (2 * n + 5) (n + 2) → k ≤ 2 * n + 5
-part_most true k n e = omega arith
-part_most false k n e = omega arith

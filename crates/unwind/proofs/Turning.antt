@@ -2,7 +2,7 @@
 use mathlib.Core.Path.{◌≡◌, refl, sym, ap, ap₂, subst, fun_ext, ◌∙◌}
 use mathlib.Core.Bool.{Bool, true, false}
 use mathlib.Core.List.{List}
-use Prim.Native.Nat.{ℕ, zero, suc, ◌+◌, ◌*◌, ◌-◌, ◌≤◌, ◌<◌, min}
+use Prim.Native.Nat.{ℕ, zero, suc, ◌+◌, ◌*◌, ◌-◌, ◌<◌, min}
 use native.Mathlib.Omega.{arith}
 use mir.Syntax.{w64}
 use mir.Val.{SFits}
@@ -11,6 +11,9 @@ use lib.ListN.{length, set, length-set}
 use lib.Seq.{set-set}
 use Rattle.paper.specs.declared.Cell.{Cell}
 use Rattle.paper.specs.declared.Ty.{Ty}
+use Rattle.std.specs.Prelude.{Result, Ok, Err}
+use Rattle.std.proofs.lemmas.Result.{IfOk-weaker}
+use Rattle.paper.specs.declared.Refusal.{Refusal}
 use Rattle.paper.specs.declared.Why.{Why}
 use Rattle.paper.specs.Refusals.{Answer, refused, given, ◌>>=◌}
 use Rattle.paper.specs.Types.{encode}
@@ -28,10 +31,10 @@ use Rattle.plain.specs.Flat.{list_at}
 use Rattle.plain.proofs.Frames.{list_same}
 use Rattle.unwind.specs.declared.lists.Walk.{Walk}
 use Rattle.unwind.specs.declared.loops.Head.{Head}
-use Rattle.unwind.specs.Parts.{Inside, Room}
-use Rattle.unwind.specs.Walks.{said, Ready, Goes, Linked, behind, Walks, UnwindDid}
-use Rattle.unwind.specs.Loops.{Small, cell_of_head, SetDid, body_of, turns_from, TurnsReady, TurnsDid}
-use Rattle.unwind.proofs.Walking.{said_good, said_refused, weighs}
+use Rattle.unwind.specs.Parts.{Inside}
+use Rattle.unwind.specs.Walks.{said, Goes, Linked, behind, UnwindDid}
+use Rattle.unwind.specs.Loops.{cell_of_head, SetDid, body_of, turns_from, TurnsReady, TurnsDid}
+use Rattle.unwind.proofs.Walking.{weighs}
 use Rattle.unwind.proofs.Fronts.{behind_both, front_done}
 use Rattle.unwind.proofs.Values.{next_small, back, back_small, sum_back, next_back, passed_back}
 
@@ -78,35 +81,14 @@ module _ (pass : ℤ → ℕ → Answer Unwound) (c b v : ℤ) (w : ℕ) where
   unfolding turns
   turns_more f x e h = rw (e, h)
 
--- ---- what the first two calls of a pass ask, and that the measure falls
+-- ---- the value as it comes back from its bits, and what the next one asks
 
 module _ {p : List ℕ} {env : State} {old : List ℕ} {h : Head} {v : ℤ} {body n w before : ℕ} (ready : TurnsReady p env old h v body n w before) where
   v_back : back v ≡ v
   v_back = back_small v ready.small.1
 
-  pub set_asks : Small (back v) × (h.cell < 64) × Ready old n w
-  set_asks =
-      let r = ready.ready in
-      (rw v_back ready.small.1, omega (arith, ready.inside, ready.cells), (omega (arith, r.0), r.1, r.2, r.3))
-
   pub sum_asks : SFits w64 (back v +ℤ back h.by)
   sum_asks = sum_back v h.by ready.small.1 ready.small.0
-
-  module _ {m1 : List ℕ} {s : Walk} (d : SetDid old m1 h (back v) n w s) (fine : s.code ≡ 0) where
-    pub body_asks : (e : ℕ) → Walks p (set env h.cell e) m1 body s.count s.weight
-    body_asks e =
-        let r = ready.ready in
-        let a = d.good fine in
-        let long = d.long in
-        let cells = length-set env h.cell e in (
-          ready.pool,
-          ready.low,
-          (omega (arith, r.0, a.0, a.2), omega (arith, a.2, a.3), omega (arith, r.2, long), omega (arith, r.3, long)),
-          omega (arith, ready.cells, cells),
-        )
-
-    pub body_falls : 4194304 * (3001 - s.weight) + 32 * body + 1 < 4194304 * (3001 - w) + 32 * body
-    body_falls = let a = d.good fine in omega (arith, a.2, a.3)
 
 -- ---- the passes as the definition has them
 
@@ -129,121 +111,92 @@ module _ (t p tab : List ℕ) {env : State} {old : List ℕ} {h : Head} {v : ℤ
   refusal y q f l e = sym (ap (behind sofar) (turns_stop pass h.by h.to v w f y q (omega arith) e))
 
   -- no weight left for the variable
-  pub set_stops : {new : List ℕ} {s : Walk} → SetDid old new h (back v) n w s → (s.code ≡ 0 → ⊥) → TurnsDid t p tab env env old new h v body n w before s
-  set_stops {new} {s} set-did non =
-      let d = subst (λ z. SetDid old new h z n w s) (v_back ready) set-did in
-      let bad = said_refused new s non in
+  pub set_stops : {new : List ℕ} {e : Refusal} → SetDid old new h (back v) n w (Err e) → TurnsDid t p tab env env old new h v body n w before (Err e)
+  set_stops {new} {e} set-did =
+      let d = subst (λ z. SetDid old new h z n w (Err e)) (v_back ready) set-did in
       record {
         kept = refl;
         only = λ x. refl;
         long = d.long;
         same = d.same;
-        goes = λ z. absurd (non z);
+        goes = tt;
         turned = λ ins size f l.
-            bad
-            ∙ refusal _ _ f l
-            (pass_heavy h.place h.ty (cell_of_head h) in_body v w _ _ (first_refused (heavier h.place 1 w) _ _ _ (sym d.is ∙ bad)));
+            refusal _ _ f l (pass_heavy h.place h.ty (cell_of_head h) in_body v w _ _ (first_refused (heavier h.place 1 w) _ _ _ (sym d.is)));
       }
 
   -- ---- the variable set and the body walked
 
-  module _ {m1 m2 : List ℕ} {env1 : State} {e : ℕ} {s b : Walk} (set-did : SetDid old m1 h (back v) n w s) (fine : s.code ≡ 0)
-      (put : e ≡ encode h.ty (back v)) (did : UnwindDid t p tab (set env h.cell e) env1 m1 m2 body s.count s.weight b) where
-    d : SetDid old m1 h v n w s
-    d = subst (λ z. SetDid old m1 h z n w s) (v_back ready) set-did
+  module _ {m1 : List ℕ} {e : ℕ} {s : Walk} (set-did : SetDid old m1 h (back v) n w (Ok s)) (put : e ≡ encode h.ty (back v)) where
+    d : SetDid old m1 h v n w (Ok s)
+    d = subst (λ z. SetDid old m1 h z n w (Ok s)) (v_back ready) set-did
 
     ee : e ≡ encode h.ty v
     ee = put ∙ ap (encode h.ty) (v_back ready)
 
-    env_long : length env1 ≡ length env
-    env_long = ap length did.kept ∙ length-set env h.cell e
-
-    env_only : (x : ℕ) → set env1 h.cell x ≡ set env h.cell x
-    env_only x = ap (λ en. set en h.cell x) did.kept ∙ set-set env h.cell e x
-
     light : heavier h.place 1 w ≡ given (w + 1)
-    light = weighs h.place 1 w (omega (arith, d.good fine))
+    light = weighs h.place 1 w (omega (arith, d.good))
 
-    body_same : Same n old m2
-    body_same = same_trans old m1 m2 n d.same (same_less m1 m2 s.count n did.same (omega (arith, d.good fine)))
+    module _ {m2 : List ℕ} {env1 : State} {r : Result Walk Refusal} (did : UnwindDid t p tab (set env h.cell e) env1 m1 m2 body s.count s.weight r) where
+      env_long : length env1 ≡ length env
+      env_long = ap length did.kept ∙ length-set env h.cell e
 
-    body_said : Inside (length env) vs → length env ≡ length (cells_of vs) → in_body v (w + 1) ≡ said m2 b
-    body_said ins size =
-        let long = length-set env h.cell e in
-        ap₂ (λ en m. unwind vs (T.front_at t p body S.done) en no_selector m) (ap (set env h.cell) (sym ee)) (sym (d.good fine).2)
-        ∙ front_done vs (set env h.cell e) (T.front_at t p body) s.weight (said m2 b)
-        (did.front (subst (λ l. Inside l vs) (sym long) ins) (long ∙ size)) no_selector
+      env_only : (x : ℕ) → set env1 h.cell x ≡ set env h.cell x
+      env_only x = ap (λ en. set en h.cell x) did.kept ∙ set-set env h.cell e x
 
-    pass_said : Inside (length env) vs → length env ≡ length (cells_of vs)
-        → pass v w ≡ (said m2 b >>= λ x. unwound (assign (cell_of_head h) (number h.ty v) x.plain) x.weight)
-    pass_said ins size = pass_body h.place h.ty (cell_of_head h) in_body v w (w + 1) (said m2 b) light (body_said ins size)
+      body_same : Same n old m2
+      body_same = same_trans old m1 m2 n d.same (same_less m1 m2 s.count n did.same (omega (arith, d.good)))
 
-    pub body_stops : (b.code ≡ 0 → ⊥) → TurnsDid t p tab env env1 old m2 h v body n w before b
-    body_stops non =
-        let bad = said_refused m2 b non in
-        let stops : Answer Unwound → Answer Unwound = λ o. o >>= λ x. unwound (assign (cell_of_head h) (number h.ty v) x.plain) x.weight in
+      body_said : Inside (length env) vs → length env ≡ length (cells_of vs) → in_body v (w + 1) ≡ said m2 r
+      body_said ins size =
+          let long = length-set env h.cell e in
+          ap₂ (λ en m. unwind vs (T.front_at t p body S.done) en no_selector m) (ap (set env h.cell) (sym ee)) (sym d.good.2)
+          ∙ front_done vs (set env h.cell e) (T.front_at t p body) s.weight (said m2 r)
+          (did.front (subst (λ l. Inside l vs) (sym long) ins) (long ∙ size)) no_selector
+
+      pass_said : Inside (length env) vs → length env ≡ length (cells_of vs)
+          → pass v w ≡ (said m2 r >>= λ x. unwound (assign (cell_of_head h) (number h.ty v) x.plain) x.weight)
+      pass_said ins size = pass_body h.place h.ty (cell_of_head h) in_body v w (w + 1) (said m2 r) light (body_said ins size)
+
+    pub body_stops : {m2 : List ℕ} {env1 : State} {f : Refusal} → UnwindDid t p tab (set env h.cell e) env1 m1 m2 body s.count s.weight (Err f) → TurnsDid t p tab env env1 old m2 h v body n w before (Err f)
+    body_stops did =
         record {
-          kept = env_long;
-          only = env_only;
+          kept = env_long did;
+          only = env_only did;
           long = did.long ∙ d.long;
-          same = body_same;
-          goes = λ z. absurd (non z);
-          turned = λ ins size f l. bad ∙ refusal _ _ f l (pass_said ins size ∙ ap stops bad);
+          same = body_same did;
+          goes = tt;
+          turned = λ ins size f l. refusal _ _ f l (pass_said did ins size);
         }
 
     -- ---- one pass put behind those so far
 
-    module _ (ended : b.code ≡ 0) where
-      pub first_asks : Room m2 (b.count + 1) × (s.root ≤ b.count) × (b.root ≤ b.count)
-      first_asks =
-          let r = ready.ready in
-          let a = d.good fine in
-          let g = did.goes ended in
-          let long = did.long ∙ d.long in (
-            (omega (arith, r.0, r.2, long, a.0, a.2, g.grown, g.light), omega (arith, r.3, long)),
-            omega (arith, a.0, a.1, g.more),
-            g.root,
-          )
+    module _ {m2 : List ℕ} {env1 : State} {b : Walk} (did : UnwindDid t p tab (set env h.cell e) env1 m1 m2 body s.count s.weight (Ok b)) {m3 m4 : List ℕ} {x y : Walk} (first : Linked m2 m3 b.count s.root b.root b.weight x)
+        (second : Linked m3 m4 x.count before x.root x.weight y) where
+      goes_body : Goes s.count s.weight b
+      goes_body = did.goes
 
-      pub second_asks : {m3 : List ℕ} {x : Walk} → Linked m2 m3 b.count s.root b.root b.weight x
-          → Room m3 (x.count + 1) × (before ≤ x.count) × (x.root ≤ x.count)
-      second_asks first =
-          let r = ready.ready in
-          let a = d.good fine in
-          let g = did.goes ended in
-          let long = first.long ∙ did.long ∙ d.long in (
-            (omega (arith, r.0, r.2, long, a.0, a.2, g.grown, g.light, first.grown), omega (arith, r.3, long)),
-            omega (arith, ready.first, a.0, g.more, first.more),
-            first.root,
-          )
-
-    module _ {m3 m4 : List ℕ} {x y : Walk} (first : Linked m2 m3 b.count s.root b.root b.weight x)
-        (second : Linked m3 m4 x.count before x.root x.weight y) (ended : b.code ≡ 0) where
       abbrev own : Unwound
       own = record { plain = assign (cell_of_head h) (number h.ty v) (list_at m2 b.root); weight = b.weight }
 
       pass_good : Inside (length env) vs → length env ≡ length (cells_of vs) → pass v w ≡ given own
-      pass_good ins size =
-          pass_said ins size
-          ∙ ap (λ (o : Answer Unwound). o >>= λ x. unwound (assign (cell_of_head h) (number h.ty v) x.plain) x.weight) (said_good m2 b ended)
+      pass_good ins size = pass_said did ins size
 
       set_list : list_at m1 s.root ≡ assign (cell_of_head h) (number h.ty v) done
       unfolding plain_in
       set_list =
           ap plain_in
-          (sym (said_good m1 s fine)
-          ∙ d.is
+          (d.is
           ∙ ap (λ (o : Answer ℕ). o >>= λ m. unwound (assign (cell_of_head h) (number h.ty v) done) m) light)
 
       first_same : Same n old m3
       first_same =
-          same_trans old m2 m3 n body_same
-          (same_less m2 m3 b.count n first.same (omega (arith, d.good fine, (did.goes ended).more)))
+          same_trans old m2 m3 n (body_same did)
+          (same_less m2 m3 b.count n first.same (omega (arith, d.good, goes_body.more)))
 
       passed_same : Same n old m4
       passed_same =
           same_trans old m3 m4 n first_same
-          (same_less m3 m4 x.count n second.same (omega (arith, d.good fine, (did.goes ended).more, first.more)))
+          (same_less m3 m4 x.count n second.same (omega (arith, d.good, goes_body.more, first.more)))
 
       before_kept : list_at m3 before ≡ list_at old before
       before_kept = list_same done old m3 n before first_same ready.first
@@ -255,16 +208,16 @@ module _ (t p tab : List ℕ) {env : State} {old : List ℕ} {h : Head} {v : ℤ
           ∙ ap₂ ◌⨾◌ before_kept
           (first.list
           ∙ ap (λ k. k ⨾ list_at m2 b.root)
-          (list_same done m1 m2 s.count s.root did.same (omega (arith, d.good fine)) ∙ set_list))
+          (list_same done m1 m2 s.count s.root did.same (omega (arith, d.good)) ∙ set_list))
 
-      said_last : said m4 y ≡ behind sofar (given own)
-      said_last = said_good m4 y second.code ∙ ap₂ unwound lists (second.weight ∙ first.weight)
+      said_last : said m4 (Ok y) ≡ behind sofar (given own)
+      said_last = ap₂ unwound lists (second.weight ∙ first.weight)
 
       -- a pass weighs at least 1
       passed_goes : Goes (n + min 1 before) w y
       passed_goes =
-          let a = d.good fine in
-          let g = did.goes ended in
+          let a = d.good in
+          let g : Goes s.count s.weight b = did.goes in
           record {
             more = omega (arith, a.0, g.more, first.more, second.more);
             root = second.root;
@@ -274,7 +227,7 @@ module _ (t p tab : List ℕ) {env : State} {old : List ℕ} {h : Head} {v : ℤ
           }
 
       passed_heavier : w < y.weight
-      passed_heavier = omega (arith, (d.good fine).2, (did.goes ended).heavy, first.weight, second.weight)
+      passed_heavier = omega (arith, (d.good).2, goes_body.heavy, first.weight, second.weight)
 
       pub passed_falls : 4194304 * (3001 - y.weight) + 32 * body < 4194304 * (3001 - w) + 32 * body
       passed_falls = omega (arith, passed_heavier, passed_goes.light)
@@ -289,14 +242,14 @@ module _ (t p tab : List ℕ) {env : State} {old : List ℕ} {h : Head} {v : ℤ
       ends : (end : Bool) → passed (back h.by) (back h.to) next ≡ end → passed h.by h.to (v +ℤ h.by) ≡ end
       ends end e = passed_back h.by h.to v end ready.small.0 ready.small.2 ready.small.1 e
 
-      pub last_pass : passed (back h.by) (back h.to) next ≡ true → TurnsDid t p tab env env1 old m4 h v body n w before y
+      pub last_pass : passed (back h.by) (back h.to) next ≡ true → TurnsDid t p tab env env1 old m4 h v body n w before (Ok y)
       last_pass end =
           record {
-            kept = env_long;
-            only = env_only;
+            kept = env_long did;
+            only = env_only did;
             long = passed_long;
             same = passed_same;
-            goes = λ z. passed_goes;
+            goes = passed_goes;
             turned = λ ins size f l.
                 said_last
                 ∙ sym (ap (behind sofar) (turns_last pass h.by h.to v w f own (omega arith) (pass_good ins size) (ends true end)));
@@ -321,8 +274,8 @@ module _ (t p tab : List ℕ) {env : State} {old : List ℕ} {h : Head} {v : ℤ
                 record {
                   pool = ready.pool;
                   low = ready.low;
-                  cells = omega (arith, ready.cells, env_long);
-                  inside = omega (arith, ready.inside, env_long);
+                  cells = omega (arith, ready.cells, env_long did);
+                  inside = omega (arith, ready.inside, env_long did);
                   steps = ready.steps;
                   small = (ready.small.0, next_small h.by v h.to ready.steps ready.small.0 ready.small.1 ready.small.2 more, ready.small.2);
                   within = more;
@@ -333,25 +286,25 @@ module _ (t p tab : List ℕ) {env : State} {old : List ℕ} {h : Head} {v : ℤ
         -- from the environment that the body leaves the passes are the same
         bodies_same : body_of t p tab env1 h body ≡ in_body
         bodies_same =
-            fun_ext (λ z. fun_ext (λ m. ap (λ en. unwind vs (T.front_at t p body S.done) en no_selector m) (env_only (encode h.ty z))))
+            fun_ext (λ z. fun_ext (λ m. ap (λ en. unwind vs (T.front_at t p body S.done) en no_selector m) (env_only did (encode h.ty z))))
 
-        pub more_passes : {env2 : State} {m5 : List ℕ} {r : Walk} → TurnsDid t p tab env1 env2 m4 m5 h next body y.count y.weight y.root r
+        pub more_passes : {env2 : State} {m5 : List ℕ} {r : Result Walk Refusal} → TurnsDid t p tab env1 env2 m4 m5 h next body y.count y.weight y.root r
             → TurnsDid t p tab env env2 old m5 h v body n w before r
         more_passes {env2} {m5} {r} there =
             record {
-              kept = rest.kept ∙ env_long;
-              only = λ x. rest.only x ∙ env_only x;
+              kept = rest.kept ∙ env_long did;
+              only = λ x. rest.only x ∙ env_only did x;
               long = rest.long ∙ passed_long;
               same = same_trans old m4 m5 n passed_same (same_less m4 m5 y.count n rest.same (omega (arith, passed_goes.more)));
-              goes = λ z. further (rest.goes z);
+              goes = IfOk-weaker r _ _ further rest.goes;
               turned = λ ins size f l. turned f ins size l;
             }
           where
             rest : TurnsDid t p tab env1 env2 m4 m5 h (v +ℤ h.by) body y.count y.weight y.root r
             rest = subst (λ u. TurnsDid t p tab env1 env2 m4 m5 h u body y.count y.weight y.root r) next_is there
 
-            further : Goes (y.count + min 1 y.root) y.weight r → Goes (n + min 1 before) w r
-            further g =
+            further : (z : Walk) → Goes (y.count + min 1 y.root) y.weight z → Goes (n + min 1 before) w z
+            further z g =
                 let one = passed_goes in
                 record {
                   more = omega (arith, one.more, g.more);
@@ -364,7 +317,7 @@ module _ (t p tab : List ℕ) {env : State} {old : List ℕ} {h : Head} {v : ℤ
             then : (f : ℕ) → Inside (length env) vs → length env ≡ length (cells_of vs) → nat_abs (h.to -ℤ (v +ℤ h.by)) < f
                 → said m5 r ≡ behind (record { plain = list_at old before ⨾ own.plain; weight = b.weight }) (turns f pass h.by h.to (v +ℤ h.by) b.weight)
             then f ins size l =
-                rest.turned (subst (λ k. Inside k vs) (sym env_long) ins) (env_long ∙ size) f l
+                rest.turned (subst (λ k. Inside k vs) (sym (env_long did)) ins) (env_long did ∙ size) f l
                 ∙ ap₂ behind (ap₂ (λ k m. record { plain = k; weight = m }) lists (second.weight ∙ first.weight))
                 (ap₂ (λ g m. turns f (pass_of h.place h.ty (cell_of_head h) g) h.by h.to (v +ℤ h.by) m) bodies_same (second.weight ∙ first.weight))
 

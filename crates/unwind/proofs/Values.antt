@@ -38,7 +38,7 @@ next_small (negsuc n) (negsuc v) (negsuc b) z lc lv lb h = omega (arith, ltb-fal
 
 -- ---- in 64 bits
 
-small_fits : (z : ℤ) → Small z → SFits w64 z
+pub small_fits : (z : ℤ) → Small z → SFits w64 z
 small_fits (pos n) l = record { sfits = omega arith }
 small_fits (negsuc n) l = record { sfits = omega arith }
 

@@ -1,7 +1,8 @@
 -- The arms of a CASE: their tests, and what their walk leaves.
-use Rattle.std.specs.Prelude.{◌≡◌, List, ℕ, ◌+◌, ◌*◌, ◌≤◌, length}
+use Rattle.std.specs.Prelude.{◌≡◌, List, ℕ, ◌+◌, ◌*◌, ◌≤◌, length, Result, IfOk}
 use Rattle.paper.specs.declared.Ty.TheVariants.{Dint as DINT}
-use Rattle.paper.specs.Refusals.{Answer, refused, given, number_of}
+use Rattle.paper.specs.declared.Refusal.{Refusal}
+use Rattle.paper.specs.Refusals.{Answer, given, Gives}
 use Rattle.paper.specs.Source as S
 use Rattle.paper.specs.Source.{Label}
 use Rattle.paper.specs.Names.{Variable, cells_of}
@@ -21,25 +22,24 @@ abbrev pub selecting : Stand.Selector → Expr → Selector
 selecting s v = record { place = s.place; plain = v; ty = s.ty }
 
 -- a test that has been weighed: its node is the root
-abbrev pub Tested : List ℕ → Expr → Answer ℕ → Walk → Type 0
-Tested new x (refused y q) r = (r.code ≡ number_of y) × (r.at ≡ q)
-Tested new x (given m) r = (r.code ≡ 0) × (r.weight ≡ m) × (expr_at new r.root ≡ x)
+abbrev pub Tested : List ℕ → Expr → Answer ℕ → Result Walk Refusal → Type 0
+Tested new x = Gives (λ m r. (r.weight ≡ m) × (expr_at new r.root ≡ x))
 
 -- the test of an arm with the labels ls, the selector being the expression e; two nodes are spared, for the IF and for what puts it behind a list
-pub record ArmTestDid (vs : List Variable) (env : State) (old new : List ℕ) (s : Stand.Selector) (e : S.Expr) (ls : List Label) (n w : ℕ) (r : Walk) : Type 0 where
+pub record ArmTestDid (vs : List Variable) (env : State) (old new : List ℕ) (s : Stand.Selector) (e : S.Expr) (ls : List Label) (n w : ℕ) (r : Result Walk Refusal) : Type 0 where
   pub long : length new ≡ length old
   pub same : Same n old new
-  pub goes : r.code ≡ 0
-      → (n ≤ r.count) × (r.root ≤ r.count) × (w ≤ r.weight) × (r.weight ≤ 3000) × (r.count + 2 + 4 * w ≤ n + 4 * r.weight)
+  pub goes : IfOk r (λ r.
+      (n ≤ r.count) × (r.root ≤ r.count) × (w ≤ r.weight) × (r.weight ≤ 3000) × (r.count + 2 + 4 * w ≤ n + 4 * r.weight))
   pub tested : Inside (length env) vs → (v : Expr) → plain_of vs env DINT e ≡ given v
       → Tested new (tests_of (selecting s v) ls) (heavier s.place (parts (tests_of (selecting s v) ls)) w) r
 
 -- the arms at the node i, and the ELSE list behind them
-pub record ArmsDid (t p tab : List ℕ) (env env' : State) (old new : List ℕ) (s : Stand.Selector) (i n w : ℕ) (r : Walk) : Type 0 where
+pub record ArmsDid (t p tab : List ℕ) (env env' : State) (old new : List ℕ) (s : Stand.Selector) (i n w : ℕ) (r : Result Walk Refusal) : Type 0 where
   pub kept : env' ≡ env
   pub long : length new ≡ length old
   pub same : Same n old new
-  pub goes : r.code ≡ 0 → Goes n w r
+  pub goes : IfOk r (Goes n w)
   pub is : Inside (length env) (listed_in t p tab) → length env ≡ length (cells_of (listed_in t p tab))
       → (v : Expr) → plain_of (listed_in t p tab) env DINT (T.expr_at t p s.node) ≡ given v
       → said new r ≡ unwind (listed_in t p tab) (T.arms_at t p i) env (selecting s v) w

@@ -1,8 +1,10 @@
 -- FOR: its head worked out, and what its passes leave.
-use Rattle.std.specs.Prelude.{◌≡◌, Bool, true, false, cond, not, ◌&&◌, List, ℕ, ◌+◌, ◌*◌, ◌≤◌, ◌<◌, min, ltb, ℤ, ◌-ℤ◌, nat_abs, length, set}
+use Rattle.std.specs.Prelude.{◌≡◌, false, cond, List, ℕ, ◌+◌, ◌*◌, ◌≤◌, ◌<◌, min, ℤ, ◌-ℤ◌, nat_abs, length, set, option_map, Result, IfOk, IfSome}
+use Rattle.std.specs.Prelude as Rust
 use Rattle.std.proofs.Math.Option.{Option, none, some}
 use Rattle.paper.specs.declared.Ty.{Ty}
 use Rattle.paper.specs.declared.Cell.{Cell}
+use Rattle.paper.specs.declared.Refusal.{Refusal}
 use Rattle.paper.specs.Refusals.{Answer}
 use Rattle.paper.specs.Types.{encode}
 use Rattle.paper.specs.Source as S
@@ -16,14 +18,12 @@ use Rattle.paper.specs.Unwinding.{Unwound, no_selector, pass_of, unwind}
 use Rattle.tree.specs.Nodes.{child_of, Same}
 use Rattle.tree.specs.Trees as T
 use Rattle.tree.specs.Trees.{place_at, name_at}
-use Rattle.constants.specs.declared.Celled.{Celled}
-use Rattle.constants.specs.declared.Wholed.{Wholed}
-use Rattle.constants.specs.Answers.{given}
+use Rattle.constants.specs.Answers.{maybe}
 use Rattle.variables.specs.Table.{listed_in}
 use Rattle.plain.specs.Flat.{list_at}
 use Rattle.unwind.specs.declared.lists.Walk.{Walk}
 use Rattle.unwind.specs.declared.loops.Head.{Head}
-use Rattle.unwind.specs.Parts.{Inside}
+use Rattle.unwind.specs.Parts.{Holds, Inside}
 use Rattle.unwind.specs.Walks.{Ready, said, Goes, behind, setting}
 
 -- ---- the head
@@ -57,27 +57,27 @@ cell_of_head h = record { 0 = h.cell }
 abbrev pub worked : Head → Worked
 worked h = record { ty = h.ty; cell = cell_of_head h; by = h.by; from = h.from; to = h.to }
 
--- the variable has one of so many cells, the step, the first value and the last are there, and the step is not 0
-abbrev pub is_worked : Celled → ℕ → Wholed → Wholed → Wholed → Bool
-is_worked cell cells c a b = (cell.some && ltb cell.cell cells) && ((c.some && not (is_zero c.value)) && (a.some && b.some))
-
 -- values of the types have no more than 32 bits
 abbrev pub Small : ℤ → Type 0
 Small z = nat_abs z < 4294967296
 
-pub record HeadDid (t p tab : List ℕ) (env : State) (i : ℕ) (r : Head) : Type 0 where
-  pub place : r.place ≡ place_at p i
-  pub inside : r.some ≡ true → r.cell < length env
-  pub steps : r.some ≡ true → is_zero r.by ≡ false
-  pub small : r.some ≡ true → Small r.by × Small r.from × Small r.to
-  pub is : Inside (length env) (listed_in t p tab) → given r.some (worked r) ≡ head_at t p tab env i
+-- a head at the place q, whose variable is one of so many cells
+pub record Stands (q cells : ℕ) (h : Head) : Type 0 where
+  pub place : h.place ≡ q
+  pub inside : h.cell < cells
+  pub steps : is_zero h.by ≡ false
+  pub small : Small h.by × Small h.from × Small h.to
+
+pub record HeadDid (t p tab : List ℕ) (env : State) (i : ℕ) (r : Rust.Option Head) : Type 0 where
+  pub stands : IfSome r (Stands (place_at p i) (length env))
+  pub is : Inside (length env) (listed_in t p tab) → maybe (option_map worked r) ≡ head_at t p tab env i
 
 -- ---- its variable set
 
-pub record SetDid (old new : List ℕ) (h : Head) (v : ℤ) (n w : ℕ) (r : Walk) : Type 0 where
+pub record SetDid (old new : List ℕ) (h : Head) (v : ℤ) (n w : ℕ) (r : Result Walk Refusal) : Type 0 where
   pub long : length new ≡ length old
   pub same : Same n old new
-  pub good : r.code ≡ 0 → (r.count ≡ n + 2) × (r.root ≡ n + 2) × (r.weight ≡ w + 1) × (w < 3000)
+  pub good : IfOk r (λ r. (r.count ≡ n + 2) × (r.root ≡ n + 2) × (r.weight ≡ w + 1) × (w < 3000))
   pub is : said new r ≡ setting h.place h.ty (cell_of_head h) v w
 
 -- ---- its passes
@@ -94,7 +94,7 @@ turns_from t p tab env h body f v w =
 
 -- v has not passed the end; `before` is the list of the passes so far
 pub record TurnsReady (p : List ℕ) (env : State) (out : List ℕ) (h : Head) (v : ℤ) (body n w before : ℕ) : Type 0 where
-  pub pool : 4 * body + 4 ≤ length p
+  pub pool : Holds p body
   pub low : body ≤ 65535
   pub cells : length env ≤ 64
   pub inside : h.cell < length env
@@ -104,13 +104,13 @@ pub record TurnsReady (p : List ℕ) (env : State) (out : List ℕ) (h : Head) (
   pub first : before ≤ n
   pub ready : Ready out (n + min 1 before) w
 
-pub record TurnsDid (t p tab : List ℕ) (env env' : State) (old new : List ℕ) (h : Head) (v : ℤ) (body n w before : ℕ) (r : Walk) : Type 0 where
+pub record TurnsDid (t p tab : List ℕ) (env env' : State) (old new : List ℕ) (h : Head) (v : ℤ) (body n w before : ℕ) (r : Result Walk Refusal) : Type 0 where
   -- of the environment only the variable is another
   pub kept : length env' ≡ length env
   pub only : (x : ℕ) → set env' h.cell x ≡ set env h.cell x
   pub long : length new ≡ length old
   pub same : Same n old new
-  pub goes : r.code ≡ 0 → Goes (n + min 1 before) w r
+  pub goes : IfOk r (Goes (n + min 1 before) w)
   pub turned : Inside (length env) (listed_in t p tab) → length env ≡ length (cells_of (listed_in t p tab))
       → (f : ℕ) → nat_abs (h.to -ℤ v) < f
       → said new r ≡ behind (record { plain = list_at old before; weight = w }) (turns_from t p tab env h body f v w)

@@ -1,9 +1,12 @@
 -- What an expression's walk leaves: its plain form, one node a part, or 8 at a place.
-use Rattle.std.specs.Prelude.{◌≡◌, cond, List, ℕ, ◌+◌, ◌*◌, ◌/◌, ◌≤◌, min, eqb, length, get_or}
+use Rattle.std.specs.Prelude.{◌≡◌, cond, List, ℕ, ◌+◌, ◌*◌, ◌/◌, ◌%◌, ◌≤◌, ◌<◌, min, eqb, length, get_or, Result, Ok, Err, IfOk, MatchResult}
 use Rattle.std.proofs.Math.Option.{some}
 use Rattle.paper.specs.declared.Ty.{Ty}
 use Rattle.paper.specs.declared.Ty.TheVariants.{Bool as BOOL, Dint as DINT}
-use Rattle.paper.specs.Refusals.{Answer, refused, given, number_of, ◌>>=◌}
+use Rattle.paper.specs.declared.Refusal.{Refusal}
+use Rattle.paper.specs.declared.Why.TheVariants.{BadWalk}
+use Rattle.paper.specs.Refusals.{Answer, refused, given, refusal, Gives, ◌>>=◌}
+use Rattle.paper.specs.Source as S
 use Rattle.paper.specs.Source.{Name}
 use Rattle.paper.specs.Names.{Variable, size_of, find}
 use Rattle.paper.specs.Typing.{type_in}
@@ -14,7 +17,13 @@ use Rattle.tree.specs.Nodes.{Same, written}
 use Rattle.tree.specs.Trees as T
 use Rattle.variables.specs.Table.{listed_in}
 use Rattle.plain.specs.Flat.{expr_at}
+use Rattle.constants.specs.declared.Celled.{Celled}
 use Rattle.unwind.specs.declared.parts.Part.{Part}
+
+-- the answer that a function's result stands for, f telling what it gives
+abbrev pub answer : {T A : Type 0} → (T → A) → Result T Refusal → Answer A
+answer f (Ok v) = given (f v)
+answer f (Err e) = refused e.why e.place
 
 -- the node n has its place in the pool
 abbrev pub Holds : List ℕ → ℕ → Type 0
@@ -37,34 +46,42 @@ pub record Emitted (old new : List ℕ) (n k a b c r : ℕ) : Type 0 where
 abbrev pub Inside : ℕ → List Variable → Type 0
 Inside n vs = (s : Name) (v : Variable) → find s vs ≡ some v → v.first + size_of v.declared.bounds ≤ n
 
--- n nodes stood before; where there is room for all, the last is the expression's
-abbrev pub Parted : List ℕ → ℕ → Answer Expr → Part → Type 0
-Parted new n (refused w q) r = (r.code ≡ number_of w) × (r.at ≡ q)
-Parted new n (given x) r =
-    (r.code ≡ 0)
-    × (r.parts ≡ min 3001 (Plain.parts x))
-    × (Holds new (n + Plain.parts x) → (r.count ≡ n + Plain.parts x) × (expr_at new r.count ≡ x))
+-- the part r is x behind n nodes: where there is room for all, the last node is its own
+pub record Ends (new : List ℕ) (n : ℕ) (x : Expr) (r : Part) : Type 0 where
+  pub counted : r.parts ≡ min 3001 (Plain.parts x)
+  pub ends : Holds new (n + Plain.parts x) → (r.count ≡ n + Plain.parts x) × (expr_at new r.count ≡ x)
 
--- a walk with an answer of its own, which is o where the variables' cells are among the first `size`; u is the type
-pub record PartDid (vs : List Variable) (size : ℕ) (old new : List ℕ) (n : ℕ) (o : Answer Expr) (u : Ty) (r : Part) : Type 0 where
+abbrev pub Parted : List ℕ → ℕ → Answer Expr → Result Part Refusal → Type 0
+Parted new n = Gives (Ends new n)
+
+-- whatever the part r is, behind n nodes; u is the type
+pub record Fits (new : List ℕ) (n : ℕ) (u : Ty) (r : Part) : Type 0 where
   pub more : n ≤ r.count
   pub holds : Holds new r.count
+  pub small : r.parts ≤ 3001
+  pub typed : r.ty ≡ u
+
+-- a walk with an answer of its own, which is o where the variables' cells are among the first `size`
+pub record PartDid (vs : List Variable) (size : ℕ) (old new : List ℕ) (n : ℕ) (o : Answer Expr) (u : Ty) (r : Result Part Refusal) : Type 0 where
   pub long : length new ≡ length old
   pub same : Same n old new
-  pub small : r.parts ≤ 3001
+  pub part : IfOk r (Fits new n u)
   pub own : Answer Expr
   pub parted : Parted new n own r
   pub is : Inside size vs → own ≡ o
-  pub typed : r.code ≡ 0 → r.ty ≡ u
 
-abbrev pub PlainDid : List ℕ → List ℕ → List ℕ → State → Ty → ℕ → List ℕ → List ℕ → ℕ → Part → Type 0
+abbrev pub PlainDid : List ℕ → List ℕ → List ℕ → State → Ty → ℕ → List ℕ → List ℕ → ℕ → Result Part Refusal → Type 0
 PlainDid t p tab env u i old new n r =
     let vs = listed_in t p tab in
     let e = T.expr_at t p i in
     PartDid vs (length env) old new n (plain_of vs env u e) (type_in vs u e) r
 
--- the cell of a name or element, whatever type is offered
-abbrev pub ReadDid : List ℕ → List ℕ → List ℕ → State → ℕ → List ℕ → List ℕ → ℕ → Part → Type 0
+-- the cell of a name or element: one of the environment's, and of its type whatever is offered
+pub record CellDid (vs : List Variable) (env : State) (e : S.Expr) (r : Result Celled Refusal) : Type 0 where
+  pub cell : MatchResult r (λ c. (c.cell < length env) × ((u : Ty) → c.ty ≡ type_in vs u e)) (λ f. f ≡ refusal BadWalk (bracket_of e))
+  pub is : Inside (length env) vs → answer (λ c. record { 0 = c.cell }) r ≡ cell_in vs env e
+
+abbrev pub ReadDid : List ℕ → List ℕ → List ℕ → State → ℕ → List ℕ → List ℕ → ℕ → Result Part Refusal → Type 0
 ReadDid t p tab env i old new n r =
     let vs = listed_in t p tab in
     let e = T.expr_at t p i in
@@ -74,27 +91,16 @@ ReadDid t p tab env i old new n r =
 abbrev pub ConstantDid : List ℕ → Ty → ℕ → List ℕ → List ℕ → ℕ → Part → Type 0
 ConstantDid p u i old new n r =
     (t : List ℕ) (vs : List Variable) (env : State) (size : ℕ)
-    → PartDid vs size old new n (plain_of vs env u (T.expr_at t p i)) (type_in vs u (T.expr_at t p i)) r
+    → PartDid vs size old new n (plain_of vs env u (T.expr_at t p i)) (type_in vs u (T.expr_at t p i)) (Ok r)
 
 -- 8 at the place of `[`
-pub record NoCell (p : List ℕ) (i n : ℕ) (r : Part) : Type 0 where
-  pub code : r.code ≡ 8
-  pub at : (t : List ℕ) → r.at ≡ bracket_of (T.expr_at t p i)
-  pub count : r.count ≡ n
-  pub parts : r.parts ≡ 0
-
--- ---- an operator over operands just walked, unless the last was refused; u is its type
-
-pub record Wrapped (old new : List ℕ) (k a b c n : ℕ) (u : Ty) (y r : Part) : Type 0 where
-  pub more : y.count ≤ r.count
-  pub holds : Holds new r.count
-  pub long : length new ≡ length old
-  pub same : Same y.count old new
-  pub small : r.parts ≤ 3001
-  pub bad : (y.code ≡ 0 → ⊥) → (r.code ≡ y.code) × (r.at ≡ y.at)
-  pub good : y.code ≡ 0 → Emitted old new y.count k a b c r.count × (r.code ≡ 0) × (r.parts ≡ min 3001 n)
-  pub typed : r.code ≡ 0 → (y.code ≡ 0) × (r.ty ≡ u)
+abbrev pub NoCell : List ℕ → ℕ → Refusal → Type 0
+NoCell p i r = (t : List ℕ) → r ≡ refusal BadWalk (bracket_of (T.expr_at t p i))
 
 -- the type that is offered to the operand of a node of kind k, whose word 2 is w
 abbrev pub offered_at : ℕ → ℕ → Ty → Ty
 offered_at k w t = cond (eqb k 8) DINT (cond (eqb k 10) (get_or T.types (w / 8) BOOL) t)
+
+-- the type of such a node over an operand of the type u
+abbrev pub resulting_at : ℕ → ℕ → Ty → Ty
+resulting_at k w u = cond (eqb k 8) BOOL (cond (eqb k 10) (get_or T.types (w % 8) BOOL) u)

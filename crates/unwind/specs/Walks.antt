@@ -1,10 +1,11 @@
 -- What the walk of statements leaves: their list in the flat pool and the weight so far, or 8 or 9 at a place.
-use Rattle.std.specs.Prelude.{◌≡◌, true, false, cond, List, [], ◌∷◌, ℕ, ◌+◌, ◌*◌, ◌-◌, ◌≤◌, min, eqb, ℤ, length, get_or, replicate}
+use Rattle.std.specs.Prelude.{◌≡◌, cond, List, [], ◌∷◌, ℕ, ◌+◌, ◌*◌, ◌-◌, ◌≤◌, min, eqb, ℤ, length, get_or, replicate, Result, IfOk}
 use Rattle.paper.specs.declared.Ty.{Ty}
 use Rattle.paper.specs.declared.Ty.TheVariants.{Dint as DINT}
 use Rattle.paper.specs.declared.Op.TheVariants.{Or}
 use Rattle.paper.specs.declared.Cell.{Cell}
-use Rattle.paper.specs.Refusals.{Answer, refused, given, why_of, ◌>>=◌}
+use Rattle.paper.specs.declared.Refusal.{Refusal}
+use Rattle.paper.specs.Refusals.{Answer, given, ◌>>=◌}
 use Rattle.paper.specs.Source as S
 use Rattle.paper.specs.Source.{Label, one, range}
 use Rattle.paper.specs.Names.{Variable, cells_of}
@@ -19,11 +20,11 @@ use Rattle.plain.specs.Flat.{expr_at, list_at}
 use Rattle.unwind.specs.declared.parts.Part.{Part}
 use Rattle.unwind.specs.declared.lists.Walk.{Walk}
 use Rattle.unwind.specs.declared.cases.Selector as Stand
-use Rattle.unwind.specs.Parts.{Holds, Inside, Parted}
+use Rattle.unwind.specs.Parts.{answer, Holds, Inside, Ends}
 
 -- the answer that a walk stands for
-abbrev pub said : List ℕ → Walk → Answer Unwound
-said new r = elim (eqb r.code 0) [ true ↦ unwound (list_at new r.root) r.weight | false ↦ refused (why_of r.code) r.at ]
+abbrev pub said : List ℕ → Result Walk Refusal → Answer Unwound
+said new r = answer (λ w. record { plain = list_at new w.root; weight = w.weight }) r
 
 -- ---- nodes and weight
 
@@ -41,16 +42,15 @@ pub record Goes (n w : ℕ) (r : Walk) : Type 0 where
   pub grown : r.count + min 1 r.root + 4 * w ≤ n + 4 * r.weight
 
 -- a walk that answers o, where the program's cells are as many as `size`
-pub record WalkDid (vs : List Variable) (size : ℕ) (old new : List ℕ) (n w : ℕ) (o : Answer Unwound) (r : Walk) : Type 0 where
+pub record WalkDid (vs : List Variable) (size : ℕ) (old new : List ℕ) (n w : ℕ) (o : Answer Unwound) (r : Result Walk Refusal) : Type 0 where
   pub long : length new ≡ length old
   pub same : Same n old new
-  pub goes : r.code ≡ 0 → Goes n w r
+  pub goes : IfOk r (Goes n w)
   pub is : Inside size vs → size ≡ length (cells_of vs) → said new r ≡ o
 
 -- ---- one list behind another
 
 pub record Linked (old new : List ℕ) (n a b w : ℕ) (r : Walk) : Type 0 where
-  pub code : r.code ≡ 0
   pub weight : r.weight ≡ w
   pub long : length new ≡ length old
   pub same : Same n old new
@@ -66,11 +66,11 @@ pub record Linked (old new : List ℕ) (n a b w : ℕ) (r : Walk) : Type 0 where
 abbrev pub assigning : ℕ → Cell → ℕ → Answer Expr → Answer Unwound
 assigning at cell w o = o >>= λ x. heavier at (parts x) w >>= λ m. unwound (assign cell x done) m
 
-pub record AssignedDid (old new : List ℕ) (at : ℕ) (cell : Cell) (w : ℕ) (v : Part) (r : Walk) : Type 0 where
+pub record AssignedDid (old new : List ℕ) (at : ℕ) (cell : Cell) (w : ℕ) (v : Part) (r : Result Walk Refusal) : Type 0 where
   pub long : length new ≡ length old
   pub same : Same v.count old new
   -- from n nodes on
-  pub does : (n : ℕ) (o : Answer Expr) → Parted old n o v → n ≤ 4 * w → n ≤ v.count → (r.code ≡ 0 → Goes n w r) × (said new r ≡ assigning at cell w o)
+  pub does : (n : ℕ) (x : Expr) → Ends old n x v → n ≤ 4 * w → n ≤ v.count → IfOk r (Goes n w) × (said new r ≡ assigning at cell w (given x))
 
 abbrev pub assign_of : List Variable → State → S.Expr → S.Expr → ℕ → Answer Unwound
 assign_of vs env x e w =
@@ -90,11 +90,11 @@ setting at t cell z w = heavier at 1 w >>= λ m. unwound (assign cell (number t 
 abbrev pub joining : ℕ → ℕ → Expr → Stmts → Stmts → ℕ → Answer Unwound
 joining size q v a b w = heavier q (cells_within size a b) w >>= λ m. unwound (choice v a b done) m
 
-pub record JoinedDid (old new : List ℕ) (size q c a : ℕ) (b r : Walk) : Type 0 where
+pub record JoinedDid (old new : List ℕ) (size q c a : ℕ) (b : Walk) (r : Result Walk Refusal) : Type 0 where
   pub long : length new ≡ length old
   pub same : Same b.count old new
   pub is : said new r ≡ joining size q (expr_at old c) (list_at old a) (list_at old b.root) b.weight
-  pub good : r.code ≡ 0 → (r.count ≡ b.count + 1) × (r.root ≡ r.count) × (b.weight ≤ r.weight) × (r.weight ≤ 3000)
+  pub good : IfOk r (λ r. (r.count ≡ b.count + 1) × (r.root ≡ r.count) × (b.weight ≤ r.weight) × (r.weight ≤ 3000))
 
 -- ---- the tests of a CASE
 
@@ -111,13 +111,13 @@ pub record Spelt (old new : List ℕ) (n nodes : ℕ) (x : Expr) (r : ℕ) : Typ
   pub same : Same n old new
   pub ends : Holds old (n + nodes) → (r ≡ n + nodes) × (expr_at new r ≡ x)
 
--- the selector whose nodes stand in the pool
-abbrev pub selects : List ℕ → Stand.Selector → Selector
-selects out s = record { place = s.place; plain = expr_at out s.root; ty = s.ty }
+-- the selector whose nodes stand in the pool, up to the root
+abbrev pub selects : List ℕ → Stand.Selector → ℕ → Selector
+selects out s root = record { place = s.place; plain = expr_at out root; ty = s.ty }
 
 -- compared by the operator of the kind k with the number at i
-abbrev pub compared_with : List ℕ → List ℕ → Stand.Selector → ℕ → ℕ → Expr
-compared_with out p s k i = binary (get_or T.operators (k - 11) Or) s.ty (expr_at out s.root) (number s.ty (T.whole_at p i))
+abbrev pub compared_with : List ℕ → List ℕ → Stand.Selector → ℕ → ℕ → ℕ → Expr
+compared_with out p s root k i = binary (get_or T.operators (k - 11) Or) s.ty (expr_at out root) (number s.ty (T.whole_at p i))
 
 -- a comparison adds two nodes, AND a third
 abbrev pub label_nodes : List ℕ → ℕ → ℕ
@@ -155,20 +155,20 @@ Front vs env f w own =
 
 -- what a walk of the node i needs
 abbrev pub Walks : List ℕ → State → List ℕ → ℕ → ℕ → ℕ → Type 0
-Walks p env out i n w = (4 * i + 4 ≤ length p) × (i ≤ 65535) × Ready out n w × (length env ≤ 64)
+Walks p env out i n w = Holds p i × (i ≤ 65535) × Ready out n w × (length env ≤ 64)
 
 -- the statements of the node i; the variables of the FORs around are as they were
-pub record UnwindDid (t p tab : List ℕ) (env env' : State) (old new : List ℕ) (i n w : ℕ) (r : Walk) : Type 0 where
+pub record UnwindDid (t p tab : List ℕ) (env env' : State) (old new : List ℕ) (i n w : ℕ) (r : Result Walk Refusal) : Type 0 where
   pub kept : env' ≡ env
   pub long : length new ≡ length old
   pub same : Same n old new
-  pub goes : r.code ≡ 0 → Goes n w r
+  pub goes : IfOk r (Goes n w)
   pub front : Inside (length env) (listed_in t p tab) → length env ≡ length (cells_of (listed_in t p tab))
       → Front (listed_in t p tab) env (T.front_at t p i) w (said new r)
 
 -- the body of the program at the node i
-pub record ProgramDid (t p tab : List ℕ) (cells i : ℕ) (old new : List ℕ) (r : Walk) : Type 0 where
+pub record ProgramDid (t p tab : List ℕ) (cells i : ℕ) (old new : List ℕ) (r : Result Walk Refusal) : Type 0 where
   pub long : length new ≡ length old
-  pub goes : r.code ≡ 0 → Goes 0 0 r
+  pub goes : IfOk r (Goes 0 0)
   pub is : Inside cells (listed_in t p tab) → cells ≡ length (cells_of (listed_in t p tab))
       → said new r ≡ unwind (listed_in t p tab) (T.front_at t p (child_of p i 2) S.done) (replicate cells 0) no_selector 0

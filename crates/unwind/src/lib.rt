@@ -11,6 +11,7 @@ ghost use Rattle.std.specs.Prelude.{◌*◌, ◌+◌, ◌≤◌, length};
 ghost use Rattle.unwind.specs.Walks.{ProgramDid};
 
 use crate::lists::Walk;
+use paper::Refusal;
 use tree::child;
 
 // The body of the program at a node, whose variables have so many cells.
@@ -21,7 +22,7 @@ pub fn unwind_program(
     cells: usize,
     root: usize,
     out: &mut [u16],
-) -> Walk
+) -> Result<Walk, Refusal>
     requires { (4 * root + 4 ≤ length pool.now) × (root ≤ 65535) × (cells ≤ 64) × (48016 ≤ length out.old) × (length out.old ≤ 262144) }
     ensures { ProgramDid text.now pool.now table.now cells root out.old out.new result }
 {

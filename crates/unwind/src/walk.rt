@@ -1,16 +1,20 @@
 // Statements in unwound order: the order of looking and of adding weight is the paper's.
-ghost use Rattle.std.specs.Prelude.{◌≡◌, ◌*◌, ◌+◌, ◌≤◌, ◌<◌, length};
-ghost use Rattle.tree.specs.Nodes.{kind_of};
+ghost use Rattle.tree.specs.Kinds.{IsStatement, IsArms};
+ghost use Rattle.tree.specs.declared.kinds.Statement.TheVariants.{Choice, Selection, Loop, List};
+ghost use Rattle.tree.specs.declared.kinds.Arms.TheVariants.{Arm};
+ghost use Rattle.unwind.specs.Parts.{Holds};
 ghost use Rattle.unwind.specs.Walks.{Walks, UnwindDid};
 ghost use Rattle.unwind.specs.Arms.{ArmsDid};
 ghost use Rattle.unwind.specs.Loops.{TurnsReady, TurnsDid};
 
 use crate::cases::{Selector, arm_test};
-use crate::lists::{Walk, assignment, joined, linked, refused, walked};
+use crate::lists::{Walk, assignment, heavier, joined, linked, nothing};
 use crate::loops::{Head, head_of, passed, set_variable};
 use crate::parts::plain_of;
-use paper::Ty;
-use tree::{child, kind, word};
+use paper::{Refusal, Ty, Why};
+use tree::kinds::{Arms, Statement};
+use tree::node::node_at;
+use tree::{child, word};
 use value::residue_of;
 
 // The statements at a node.
@@ -24,30 +28,18 @@ pub fn unwind(
     out: &mut [u16],
     count: usize,
     weight: usize,
-) -> Walk
+) -> Result<Walk, Refusal>
     requires { Walks pool.now env.old out.old i count weight }
     ensures { UnwindDid text.now pool.now table.now env.old env.new out.old out.new i count weight result }
 {
-    let k = kind(pool, i);
-    if i == 0 {
-        return walked(count, 0, weight);
+    match node_at(pool, i).statement() {
+        Statement::Nothing => Ok(nothing(count, weight)),
+        Statement::Assignment => assignment(text, pool, table, env, i, out, count, weight),
+        Statement::Choice => choice(text, pool, table, env, i, out, count, weight),
+        Statement::Selection => select(text, pool, table, env, i, out, count, weight),
+        Statement::Loop => repeat(text, pool, table, env, i, out, count, weight),
+        Statement::List => both(text, pool, table, env, i, out, count, weight),
     }
-    if k < 41 {
-        return assignment(text, pool, table, env, i, out, count, weight);
-    }
-    if k == 41 {
-        return choice(text, pool, table, env, i, out, count, weight);
-    }
-    if k == 42 {
-        return select(text, pool, table, env, i, out, count, weight);
-    }
-    if k == 43 {
-        return repeat(text, pool, table, env, i, out, count, weight);
-    }
-    if k == 44 {
-        return both(text, pool, table, env, i, out, count, weight);
-    }
-    walked(count, 0, weight)
 }
 
 // A list and one statement more.
@@ -61,21 +53,15 @@ fn both(
     out: &mut [u16],
     count: usize,
     weight: usize,
-) -> Walk
-    requires { (Walks pool.now env.old out.old i count weight) × (0 < i) × (kind_of pool.now i ≡ 44) }
+) -> Result<Walk, Refusal>
+    requires { Walks pool.now env.old out.old i count weight × IsStatement pool.now i List }
     ensures { UnwindDid text.now pool.now table.now env.old env.new out.old out.new i count weight result }
 {
     let first = child(pool, i, 1);
-    let a = unwind(text, pool, table, env, first, out, count, weight);
-    if a.code != 0 {
-        return a;
-    }
+    let a = unwind(text, pool, table, env, first, out, count, weight)?;
     let next = child(pool, i, 2);
-    let b = unwind(text, pool, table, env, next, out, a.count, a.weight);
-    if b.code != 0 {
-        return b;
-    }
-    linked(out, b.count, a.root, b.root, b.weight)
+    let b = unwind(text, pool, table, env, next, out, a.count, a.weight)?;
+    Ok(linked(out, b.count, a.root, b.root, b.weight))
 }
 
 // IF: the condition, the two lists, and the cells that they assign.
@@ -89,46 +75,19 @@ fn choice(
     out: &mut [u16],
     count: usize,
     weight: usize,
-) -> Walk
-    requires { (Walks pool.now env.old out.old i count weight) × (0 < i) × (kind_of pool.now i ≡ 41) }
+) -> Result<Walk, Refusal>
+    requires { Walks pool.now env.old out.old i count weight × IsStatement pool.now i Choice }
     ensures { UnwindDid text.now pool.now table.now env.old env.new out.old out.new i count weight result }
 {
     let j = child(pool, i, 2);
     let q = word(pool, j, 3) as usize;
-    let v = plain_of(
-        text,
-        pool,
-        table,
-        env,
-        Ty::Dint,
-        child(pool, i, 1),
-        out,
-        count,
-    );
-    if v.code != 0 {
-        return refused(v.code, v.at, v.count);
-    }
-    let w = weight + v.parts;
-    if 3000 < w {
-        return refused(9, q, v.count);
-    }
-    let a = unwind(text, pool, table, env, child(pool, j, 1), out, v.count, w);
-    if a.code != 0 {
-        return a;
-    }
-    let b = unwind(
-        text,
-        pool,
-        table,
-        env,
-        child(pool, j, 2),
-        out,
-        a.count,
-        a.weight,
-    );
-    if b.code != 0 {
-        return b;
-    }
+    let test = child(pool, i, 1);
+    let v = plain_of(text, pool, table, env, Ty::Dint, test, out, count)?;
+    let w = heavier(q, v.parts, weight)?;
+    let first = child(pool, j, 1);
+    let a = unwind(text, pool, table, env, first, out, v.count, w)?;
+    let second = child(pool, j, 2);
+    let b = unwind(text, pool, table, env, second, out, a.count, a.weight)?;
     joined(out, env.len(), q, v.count, a.root, b)
 }
 
@@ -143,33 +102,19 @@ fn select(
     out: &mut [u16],
     count: usize,
     weight: usize,
-) -> Walk
-    requires { (Walks pool.now env.old out.old i count weight) × (0 < i) × (kind_of pool.now i ≡ 42) }
+) -> Result<Walk, Refusal>
+    requires { Walks pool.now env.old out.old i count weight × IsStatement pool.now i Selection }
     ensures { UnwindDid text.now pool.now table.now env.old env.new out.old out.new i count weight result }
 {
     let s = child(pool, i, 1);
-    let v = plain_of(text, pool, table, env, Ty::Dint, s, out, count);
-    if v.code != 0 {
-        return refused(v.code, v.at, count);
-    }
-    let t = v.ty;
+    let v = plain_of(text, pool, table, env, Ty::Dint, s, out, count)?;
     let sel = Selector {
         place: word(pool, i, 3) as usize,
         node: s,
-        root: 0,
-        ty: t,
+        ty: v.ty,
     };
-    arms(
-        text,
-        pool,
-        table,
-        env,
-        child(pool, i, 2),
-        sel,
-        out,
-        count,
-        weight,
-    )
+    let first = child(pool, i, 2);
+    arms(text, pool, table, env, first, sel, out, count, weight)
 }
 
 // The arms of a CASE and its ELSE list.
@@ -184,30 +129,18 @@ fn arms(
     out: &mut [u16],
     count: usize,
     weight: usize,
-) -> Walk
-    requires { (Walks pool.now env.old out.old i count weight) × (4 * sel.node + 4 ≤ length pool.now) }
+) -> Result<Walk, Refusal>
+    requires { Walks pool.now env.old out.old i count weight × Holds pool.now sel.node }
     ensures { ArmsDid text.now pool.now table.now env.old env.new out.old out.new sel i count weight result }
 {
-    let k = kind(pool, i);
-    if i == 0 {
-        return walked(count, 0, weight);
+    match node_at(pool, i).arms() {
+        Arms::Nothing => Ok(nothing(count, weight)),
+        Arms::Arm => arm(text, pool, table, env, i, sel, out, count, weight),
+        Arms::Otherwise => {
+            let list = child(pool, i, 1);
+            unwind(text, pool, table, env, list, out, count, weight)
+        }
     }
-    if 49 < k {
-        return walked(count, 0, weight);
-    }
-    if k == 49 {
-        return unwind(
-            text,
-            pool,
-            table,
-            env,
-            child(pool, i, 1),
-            out,
-            count,
-            weight,
-        );
-    }
-    arm(text, pool, table, env, i, sel, out, count, weight)
 }
 
 // An arm, its list and the arms behind it, as an IF.
@@ -222,25 +155,16 @@ fn arm(
     out: &mut [u16],
     count: usize,
     weight: usize,
-) -> Walk
-    requires { (Walks pool.now env.old out.old i count weight) × (4 * sel.node + 4 ≤ length pool.now) × (0 < i) × (kind_of pool.now i < 49) }
+) -> Result<Walk, Refusal>
+    requires { Walks pool.now env.old out.old i count weight × Holds pool.now sel.node × IsArms pool.now i Arm }
     ensures { ArmsDid text.now pool.now table.now env.old env.new out.old out.new sel i count weight result }
 {
     let labels = child(pool, i, 1);
-    let c = arm_test(text, pool, table, env, sel, labels, out, count, weight);
-    if c.code != 0 {
-        return c;
-    }
+    let c = arm_test(text, pool, table, env, sel, labels, out, count, weight)?;
     let list = child(pool, i, 2);
-    let a = unwind(text, pool, table, env, list, out, c.count, c.weight);
-    if a.code != 0 {
-        return a;
-    }
+    let a = unwind(text, pool, table, env, list, out, c.count, c.weight)?;
     let rest = child(pool, i, 3);
-    let b = arms(text, pool, table, env, rest, sel, out, a.count, a.weight);
-    if b.code != 0 {
-        return b;
-    }
+    let b = arms(text, pool, table, env, rest, sel, out, a.count, a.weight)?;
     joined(out, env.len(), sel.place, c.root, a.root, b)
 }
 
@@ -255,14 +179,16 @@ fn repeat(
     out: &mut [u16],
     count: usize,
     weight: usize,
-) -> Walk
-    requires { (Walks pool.now env.old out.old i count weight) × (0 < i) × (kind_of pool.now i ≡ 43) }
+) -> Result<Walk, Refusal>
+    requires { Walks pool.now env.old out.old i count weight × IsStatement pool.now i Loop }
     ensures { UnwindDid text.now pool.now table.now env.old env.new out.old out.new i count weight result }
 {
-    let h = head_of(text, pool, table, env, i);
-    if !h.some {
-        return refused(8, h.place, count);
-    }
+    let Some(h) = head_of(text, pool, table, env, i) else {
+        return Err(Refusal {
+            why: Why::BadWalk,
+            place: word(pool, i, 3) as usize,
+        });
+    };
     if passed(h.by, h.to, h.from) {
         return set_variable(out, h, h.from, count, weight);
     }
@@ -290,25 +216,18 @@ fn turns(
     count: usize,
     weight: usize,
     before: usize,
-) -> Walk
+) -> Result<Walk, Refusal>
     requires { TurnsReady pool.now env.old out.old h v body count weight before }
     ensures { TurnsDid text.now pool.now table.now env.old env.new out.old out.new h v body count weight before result }
 {
-    let s = set_variable(out, h, v, count, weight);
-    if s.code != 0 {
-        return s;
-    }
+    let s = set_variable(out, h, v, count, weight)?;
     let c = h.cell;
-    let t = h.ty;
-    env[c] = residue_of(t, v);
-    let b = unwind(text, pool, table, env, body, out, s.count, s.weight);
-    if b.code != 0 {
-        return b;
-    }
+    env[c] = residue_of(h.ty, v);
+    let b = unwind(text, pool, table, env, body, out, s.count, s.weight)?;
     let x = linked(out, b.count, s.root, b.root, b.weight);
     let y = linked(out, x.count, before, x.root, x.weight);
     if passed(h.by, h.to, v + h.by) {
-        return y;
+        return Ok(y);
     }
     turns(
         text,

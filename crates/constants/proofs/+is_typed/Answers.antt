@@ -1,32 +1,26 @@
--- The proof of the cycle of calls {is_typed}. The measure is the node: a child is an earlier one.
-use borrow.Author.Tests.{ltb-true}
-use mathlib.Core.Path.{sym, ap, ◌∙◌}
-use native.Mathlib.Omega.{arith}
-use Rattle.paper.specs.Typing.{type_of}
-use Rattle.tree.specs.Trees.{expr_at}
-use Rattle.constants.proofs.Types.{complement_type, conversion_type, other_type, leaf_own, first_own}
-use Rattle.constants.specs.Answers.{is_typed}
+-- The measure is the node: a child is an earlier one.
+use Rattle.constants.proofs.Types.{inner_own, other_own, test_own, first_own}
 use Rattle.constants.proofs.+is_typed.Goals as goal
 
-pub returns-then-k-lt7 : goal.returns-then-k-lt7
-returns-then-k-lt7 t c =
-    λ s vs h. let A = c.args in leaf_own vs s A.pool.now A.i _ (sym c.kind-k.ensures) (ltb-true 2 _ h) c.if-k-lt7.true
+pub returns-in-Minus : goal.returns-in-Minus
+returns-in-Minus t c =
+    let A = c.args.n in
+    λ s vs h. inner_own vs s A.pool.now A.at _ c.expression.ensures c.in-Minus.is ((rw (c.child.ensures.0, c.child.ensures.1) at c.is_typed.ensures) s vs h)
 
-pub returns-then-k-eq8 : goal.returns-then-k-eq8
-returns-then-k-eq8 t c =
-    λ s vs h. let A = c.args in ap is_typed (sym (complement_type vs s A.pool.now A.i _ (sym c.kind-k.ensures) c.if-k-eq8.true))
+pub returns-in_default : goal.returns-in_default
+returns-in_default t c =
+    let A = c.args.n in
+    let d = c.in_default in
+    λ s vs h. other_own vs s A.pool.now A.at _ c.expression.ensures d.not-Nothing d.not-Number d.not-Minus d.not-Brackets d.not-Binary
 
-pub returns-then-k-eq10 : goal.returns-then-k-eq10
-returns-then-k-eq10 t c =
-    λ s vs h. let A = c.args in ap is_typed (sym (conversion_type vs s A.pool.now A.i _ (sym c.kind-k.ensures) c.if-k-eq10.true))
+pub returns-then-not-is_arithmetic : goal.returns-then-not-is_arithmetic
+returns-then-not-is_arithmetic t c =
+    let A = c.args.n in
+    λ s vs h. test_own vs s A.pool.now A.at _ c.in-Binary.ensures _ c.is_arithmetic.ensures c.if-not-is_arithmetic.true
 
-pub returns-then-k-gt15 : goal.returns-then-k-gt15
-returns-then-k-gt15 t c =
-    λ s vs h. let A = c.args in ap is_typed (sym (other_type vs s A.pool.now A.i _ (sym c.kind-k.ensures) c.if-k-gt15.true))
-
-pub returns : goal.returns
-returns t c =
-    λ s vs h.
-    let A = c.args in
-    first_own vs s A.pool.now A.i _ (sym c.kind-k.ensures) (omega (arith, c.if-k-lt7.false)) (omega (arith, c.if-k-gt15.false)) c.if-k-eq8.false c.if-k-eq10.false
-    (ap (λ j. is_typed (type_of vs (expr_at s A.pool.now j))) (sym c.child.ensures) ∙ c.is_typed.ensures s vs h)
+pub returns-else-not-is_arithmetic : goal.returns-else-not-is_arithmetic
+returns-else-not-is_arithmetic t c =
+    let A = c.args.n in
+    let at = c.child-else-not-is_arithmetic.ensures in
+    λ s vs h. first_own vs s A.pool.now A.at _ c.in-Binary.ensures _ c.is_arithmetic.ensures c.if-not-is_arithmetic.false
+    ((rw (at.0, at.1) at c.is_typed-else-not-is_arithmetic.ensures) s vs h)

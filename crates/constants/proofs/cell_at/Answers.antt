@@ -1,27 +1,23 @@
 -- `constants::cell_at` meets its contract.
-use mathlib.Core.Path.{sym, ap, ◌∙◌}
-use Rattle.paper.specs.Names.{is_array}
-use Rattle.tree.specs.Nodes.{child_of}
-use Rattle.tree.specs.Trees.{name_at, wide}
-use Rattle.variables.specs.Table.{type_at, bounds_in, listed_in}
+use mathlib.Core.Path.{sym, ◌∙◌}
+use Rattle.tree.specs.Trees.{name_at}
+use Rattle.variables.specs.Table.{listed_in}
 use Rattle.constants.proofs.Types.{type_of_name_lem}
-use Rattle.constants.proofs.Cells.{between_same, bounds_array, element_cell_lem}
+use Rattle.constants.proofs.Cells.{bounds_array, element_cell_lem}
 use Rattle.constants.proofs.cell_at.Goals as goal
 
-pub returns-then-is_array : goal.returns-then-is_array
-returns-then-is_array c =
+pub returns : goal.returns
+returns c =
     let A = c.args in
-    let p = A.pool.now in
-    let vs = listed_in A.text.now p A.table.now in
-    let n = name_at A.text.now A.place in
-    let node = c.declaration_of-j.ensures.0 in
-    let listed = c.find-v.ensures.listed c.if-v-table.true p in
-    let b = c.bounds_of-b.ensures.0 ∙ ap (λ j. child_of p (child_of p j 2) 1) node in
-    let array = sym (ap (λ j. is_array (bounds_in p j)) node) ∙ sym c.is_array.ensures ∙ c.if-is_array.true in (
-      c.cell_from.ensures.0
-          ∙ between_same _ _ _ _ _ _ A.n c.word.ensures
-          (c.wide_at-lo.ensures ∙ ap (wide p) (c.child.ensures ∙ ap (λ i. child_of p i 1) b))
-          (c.wide_at-hi.ensures ∙ ap (wide p) (c.child-then-is_array.ensures ∙ ap (λ i. child_of p i 2) b))
-          ∙ element_cell_lem vs n _ listed _ _ _ _ A.n (bounds_array p _ array),
-      λ e. c.cell_from.ensures.1 e ∙ c.type_of.ensures ∙ ap (type_at p) node ∙ type_of_name_lem vs n _ listed,
-    )
+    let vs = listed_in A.vars.text.now A.vars.pool.now A.vars.table.now in
+    let n = name_at A.vars.text.now A.place in
+    let node = c.declaration-declared.ensures in
+    let listed = c.in_ok-v.ensures.listed A.vars.pool.now in
+    let array = sym (rw (node.0, node.1) at c.is_array.ensures) ∙ c.if-not-is_array.false in
+    let b = c.bounds_of-bounds.ensures in
+    let lo = rw (c.child.ensures.0, c.child.ensures.1, b.0, b.1, node.0, node.1) at c.wide-lo.ensures in
+    let hi = rw (c.child-2.ensures.0, c.child-2.ensures.1, b.0, b.1, node.0, node.1) at c.wide-hi.ensures in
+    record {
+      cell = element_cell_lem vs n _ listed _ _ _ _ A.n _ (bounds_array A.vars.pool.now _ array) (rw (lo, hi, c.first_cell.ensures) at c.in_ok-cell.ensures);
+      ty = (rw (node.0, node.1) at c.type_of.ensures) ∙ type_of_name_lem vs n _ listed;
+    }

@@ -1,16 +1,12 @@
 -- `constants::type_of_name` meets its contract.
-use mathlib.Core.Path.{ap, ◌∙◌}
-use Rattle.variables.specs.Table.{type_at}
+use mathlib.Core.Path.{◌∙◌}
 use Rattle.constants.proofs.Types.{type_of_name_lem, type_of_none}
 use Rattle.constants.proofs.type_of_name.Goals as goal
 
-pub returns-then-v-table : goal.returns-then-v-table
-returns-then-v-table c =
-    let A = c.args in
-    c.type_of.ensures
-    ∙ ap (type_at A.pool.now) c.declaration_of.ensures.0
-    ∙ type_of_name_lem _ _ _ (c.find-v.ensures.listed c.if-v-table.true A.pool.now)
+pub returns-in-Some : goal.returns-in-Some
+returns-in-Some c =
+    (rw (c.declaration.ensures.0, c.declaration.ensures.1) at c.type_of.ensures)
+    ∙ type_of_name_lem _ _ _ (c.in-Some.ensures.listed c.args.vars.pool.now)
 
-pub returns : goal.returns
-returns c =
-    type_of_none _ _ (c.find-v.ensures.unlisted c.if-v-table.false c.args.pool.now)
+pub returns-in-None : goal.returns-in-None
+returns-in-None c = type_of_none _ _ (c.in-None.ensures.listed c.args.vars.pool.now)

@@ -1,23 +1,22 @@
 -- `constants::variable_cell` meets its contract.
-use mathlib.Core.Path.{sym, ap, ◌∙◌}
-use mathlib.Core.Option.{some}
-use borrow.Author.Tests.{not-true}
-use Rattle.paper.specs.Names.{is_array}
+use mathlib.Core.Path.{◌≡◌, ap, ◌∙◌}
+use Rattle.tree.specs.Nodes.{word_of}
 use Rattle.tree.specs.Trees.{name_at}
-use Rattle.variables.specs.Table.{type_at, bounds_in, listed_in}
+use Rattle.variables.specs.Table.{type_at, node_in, listed_in}
 use Rattle.constants.proofs.Types.{type_of_name_lem}
-use Rattle.constants.proofs.Cells.{variable_cell_lem}
+use Rattle.constants.proofs.Cells.{the_cell, variable_cell_lem}
 use Rattle.constants.proofs.variable_cell.Goals as goal
 
-pub returns-then-not-is_array : goal.returns-then-not-is_array
-returns-then-not-is_array c =
+pub returns : goal.returns
+returns c =
     let A = c.args in
-    let p = A.pool.now in
-    let vs = listed_in A.text.now p A.table.now in
-    let n = name_at A.text.now A.place in
-    let node = c.declaration_of-j.ensures.0 in
-    let listed = c.find-v.ensures.listed c.if-v-table.true p in
-    let single = sym (ap (λ j. is_array (bounds_in p j)) node) ∙ sym c.is_array.ensures ∙ not-true _ c.if-not-is_array.true-raw in (
-      ap (λ n. some (record { 0 = n })) c.word.ensures ∙ variable_cell_lem vs n _ listed single,
-      λ e. c.type_of.ensures ∙ ap (type_at p) node ∙ type_of_name_lem vs n _ listed,
-    )
+    let vs = listed_in A.vars.text.now A.vars.pool.now A.vars.table.now in
+    let n = name_at A.vars.text.now A.place in
+    let node = c.declaration-declared.ensures in
+    let listed = c.in_ok-v.ensures.listed A.vars.pool.now in
+    let ty : c.type_of.result ≡ type_at A.vars.pool.now (node_in A.vars.pool.now (word_of A.vars.table.now c.in_ok-v.v 1)) = rw (node.0, node.1) at c.type_of.ensures in
+    let first : the_cell c.first_cell.result ≡ the_cell (word_of A.vars.table.now c.in_ok-v.v 2) = ap the_cell c.first_cell.ensures in
+    record {
+      cell = first ∙ variable_cell_lem vs n _ listed _ (rw (node.0, node.1) at c.is_array.ensures) c.if-is_array.false;
+      ty = ty ∙ type_of_name_lem vs n _ listed;
+    }

@@ -1,40 +1,24 @@
--- The proof of the cycle of calls {figure_of}. The measure is the node: a child is an earlier one.
--- Assumes nothing.
-use mathlib.Core.Path.{◌≡◌}
-use Prim.Native.Nat.{◌+◌, max}
+-- The measure is the node: a child is an earlier one.
 use native.Mathlib.Omega.{arith}
-use Rattle.plain.proofs.Figures.{nil_figure, assign_figure, choice_figure, list_figure, other_figure}
+use Rattle.plain.proofs.Figures.{nothing_figure, assign_figure, choice_figure, list_figure}
 use Rattle.plain.proofs.+figure_of.Goals as goal
-use Rattle.plain.proofs.+figure_of.Goals.{else-a-b, then-a-b}
 
-pub returns-then-i-eq0 : goal.returns-then-i-eq0
-returns-then-i-eq0 t c =
-    rw c.if-i-eq0.true (nil_figure c.args.pool.now)
+pub returns-in-Nothing : goal.returns-in-Nothing
+returns-in-Nothing t c = nothing_figure _ _ c.in-Nothing.ensures
 
-pub returns-then-k-lt41 : goal.returns-then-k-lt41
-returns-then-k-lt41 t c =
-    let A = c.args in
-    assign_figure A.pool.now A.i (omega arith) (omega arith)
+pub returns-in-Assignment : goal.returns-in-Assignment
+returns-in-Assignment t c = assign_figure _ _ c.in-Assignment.ensures
 
-pub returns-then-k-eq41 : goal.returns-then-k-eq41
-returns-then-k-eq41 t c =
-    let A = c.args in
-    let longer : c.if-a-b.capped ≡ max c.figure_of-a.result c.figure_of-b.result + 1 =
-    elim c.if-a-b.branch [ then-a-b w ↦ omega arith | else-a-b w ↦ omega arith ] in
-    choice_figure A.pool.now A.i (omega arith) (omega arith) _ _ _
-    (rw c.child.ensures at c.figure_of-a.ensures)
-    (rw c.child-then-k-eq41.ensures at c.figure_of-b.ensures)
-    (rw longer at c.capped.ensures)
+pub returns-in-Choice : goal.returns-in-Choice
+returns-in-Choice t c =
+    choice_figure _ _ c.in-Choice.ensures _ _ _
+    (rw (c.child.ensures.0, c.child.ensures.1) at c.figure_of-a.ensures)
+    (rw (c.child-in-Choice.ensures.0, c.child-in-Choice.ensures.1) at c.figure_of-b.ensures)
+    (omega (arith, c.min.ensures, c.max.ensures))
 
-pub returns-then-k-eq44 : goal.returns-then-k-eq44
-returns-then-k-eq44 t c =
-    let A = c.args in
-    list_figure A.pool.now A.i (omega arith) (omega arith) _ _ _
-    (rw c.child-then-k-eq44.ensures at c.figure_of-a-then-k-eq44.ensures)
-    (rw c.child-then-k-eq44-2.ensures at c.figure_of.ensures)
-    c.capped-then-k-eq44.ensures
-
-pub returns : goal.returns
-returns t c =
-    let A = c.args in
-    other_figure A.pool.now A.i (omega arith) (omega arith) (λ e. c.if-k-eq44.false (omega arith))
+pub returns-in-List : goal.returns-in-List
+returns-in-List t c =
+    list_figure _ _ c.in-List.ensures _ _ _
+    (rw (c.child-in-List.ensures.0, c.child-in-List.ensures.1) at c.figure_of-a-in-List.ensures)
+    (rw (c.child-in-List-2.ensures.0, c.child-in-List-2.ensures.1) at c.figure_of-b-in-List.ensures)
+    (omega (arith, c.min-in-List.ensures))

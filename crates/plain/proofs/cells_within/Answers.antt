@@ -10,4 +10,4 @@ pub returns : goal.returns
 returns c =
     let A = c.args in
     c.marked.ensures
-    ∙ cells_marked _ _ _ _ _ A.n c.mark.ensures c.mark-2.ensures (omega arith) (λ i l. get_or-replicate 64 i 0 0 (omega arith))
+    ∙ cells_marked _ _ _ _ _ A.count c.mark.ensures c.mark-2.ensures (omega arith) (λ i l. get_or-replicate 64 i 0 0 (omega arith))

@@ -16,9 +16,9 @@ returns-then-i-eq0 t c =
 pub returns-then-b-eq0 : goal.returns-then-b-eq0
 returns-then-b-eq0 t c =
     let A = c.args in
-    parts_first A.pool.now A.parts A.i (omega (arith, c.if-i-eq0.false)) _ (c.test_parts-n.ensures ∙ ap (λ j. cond (eqb (word_of A.pool.now j 0) 31) (2 * A.parts + 5) (A.parts + 2)) c.child.ensures) (sym c.child-b.ensures ∙ c.if-b-eq0.true) c.capped.result c.capped.ensures
+    parts_first A.pool.now A.parts A.i (omega (arith, c.if-i-eq0.false)) _ (c.test_parts-n.ensures ∙ ap (λ j. cond (eqb (word_of A.pool.now j 0) 31) (2 * A.parts + 5) (A.parts + 2)) c.child.ensures) (sym c.child-b.ensures ∙ c.if-b-eq0.true) c.min.result (omega (arith, c.min.ensures))
 
 pub returns : goal.returns
 returns t c =
     let A = c.args in
-    parts_more A.pool.now A.parts A.i (omega (arith, c.if-i-eq0.false)) _ (c.test_parts-n.ensures ∙ ap (λ j. cond (eqb (word_of A.pool.now j 0) 31) (2 * A.parts + 5) (A.parts + 2)) c.child.ensures) (omega (arith, c.if-b-eq0.false, c.child-b.ensures)) c.tests_parts.result c.capped-2.result (subst (λ j. TestsParts A.pool.now A.parts j c.tests_parts.result) c.child-b.ensures c.tests_parts.ensures) c.capped-2.ensures
+    parts_more A.pool.now A.parts A.i (omega (arith, c.if-i-eq0.false)) _ (c.test_parts-n.ensures ∙ ap (λ j. cond (eqb (word_of A.pool.now j 0) 31) (2 * A.parts + 5) (A.parts + 2)) c.child.ensures) (omega (arith, c.if-b-eq0.false, c.child-b.ensures)) c.tests_parts.result c.min-2.result (subst (λ j. TestsParts A.pool.now A.parts j c.tests_parts.result) c.child-b.ensures c.tests_parts.ensures) (omega (arith, c.min-2.ensures))

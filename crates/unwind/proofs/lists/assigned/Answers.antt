@@ -4,4 +4,5 @@ use Rattle.unwind.proofs.lists.assigned.Goals as goal
 
 pub returns : goal.returns
 returns c =
-    assigned_good c.args.out.now c.args.at c.args.cell c.args.weight c.args.v c.walked.result _ _ c.emit-n.ensures c.walked.ensures.0 c.walked.ensures.1 c.walked.ensures.2 c.walked.ensures.3 c.if-v-ne0.false c.if-w-gt3000.false c.requires.3
+    let A = c.args in
+    assigned_good A.out.now A.at A.cell A.weight A.v _ _ _ c.emit-n.ensures c.in_ok-w.ensures.0 c.in_ok-w.ensures.1 c.requires.3

@@ -6,9 +6,9 @@ use Rattle.unwind.proofs.loops.number.Goals as goal
 pub returns-then-z-lt0 : goal.returns-then-z-lt0
 returns-then-z-lt0 c =
     let A = c.args in
-    spelt_below A.out.now _ A.count c.distance-m.result _ _ A.t A.z _ (to_z-of_z c.ranges.z) c.distance-m.ensures c.tag_of-v.ensures c.if-z-lt0.true c.emit.ensures
+    spelt_below A.out.now _ A.count c.unsigned_abs-m.result _ _ A.t A.z _ (to_z-of_z c.ranges.z) c.unsigned_abs-m.ensures.value c.from-v.ensures c.if-z-lt0.true c.emit.ensures
 
 pub returns : goal.returns
 returns c =
     let A = c.args in
-    spelt_above A.out.now _ A.count c.distance-m.result _ _ A.t A.z _ (to_z-of_z c.ranges.z) c.distance-m.ensures c.tag_of-v.ensures c.if-z-lt0.false c.emit-2.ensures
+    spelt_above A.out.now _ A.count c.unsigned_abs-m.result _ _ A.t A.z _ (to_z-of_z c.ranges.z) c.unsigned_abs-m.ensures.value c.from-v.ensures c.if-z-lt0.false c.emit-2.ensures

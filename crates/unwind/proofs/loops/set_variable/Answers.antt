@@ -7,4 +7,4 @@ pub returns : goal.returns
 returns c =
     let A = c.args in
     let pre = c.requires in
-    set_good A.out.now A.h A.v A.count A.weight c.walked.result _ _ _ _ _ (to_z-of_z c.ranges.v) c.number-n.ensures c.emit-m.ensures c.walked.ensures.0 c.walked.ensures.1 c.walked.ensures.2 c.walked.ensures.3 c.if-weight-gt2999.false pre.2.0 pre.2.2
+    set_good A.out.now A.h A.v A.count A.weight _ _ _ _ _ _ (to_z-of_z c.ranges.v) c.number-n.ensures c.emit-m.ensures c.in_ok-w.ensures.0 c.in_ok-w.ensures.1 pre.2.0 pre.2.2

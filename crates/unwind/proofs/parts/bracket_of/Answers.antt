@@ -1,21 +1,15 @@
 -- `unwind::parts::bracket_of` meets its contract.
-use mathlib.Core.Path.{sym, ◌∙◌}
-use native.Mathlib.Omega.{arith}
-use Rattle.unwind.proofs.Exprs.{element_bracket, nil_bracket, none_bracket, own_bracket}
+use mathlib.Core.Path.{◌∙◌}
+use Rattle.unwind.proofs.Exprs.{nil_bracket, element_bracket, own_bracket}
 use Rattle.unwind.proofs.parts.bracket_of.Goals as goal
 
-pub returns-then-k-eq6 : goal.returns-then-k-eq6
-returns-then-k-eq6 c =
-    λ t. c.word.ensures ∙ element_bracket t c.args.pool.now c.args.i _ (sym c.kind-k.ensures) c.if-k-eq6.true
+pub returns-in-Nothing : goal.returns-in-Nothing
+returns-in-Nothing c = rw (← c.node_at-n.ensures.0, ← c.node_at-n.ensures.1) (nil_bracket _ _ c.in-Nothing.ensures)
 
-pub returns-then-k-eq0 : goal.returns-then-k-eq0
-returns-then-k-eq0 c =
-    λ t. nil_bracket t c.args.pool.now c.args.i _ (sym c.kind-k.ensures) c.if-k-eq0.true
+pub returns-in-Element : goal.returns-in-Element
+returns-in-Element c = rw (← c.node_at-n.ensures.0, ← c.node_at-n.ensures.1) (λ t. c.word.ensures ∙ element_bracket _ _ c.in-Element.ensures t)
 
-pub returns-then-k-gt24 : goal.returns-then-k-gt24
-returns-then-k-gt24 c =
-    λ t. none_bracket t c.args.pool.now c.args.i _ (sym c.kind-k.ensures) c.if-k-gt24.true
-
-pub returns : goal.returns
-returns c =
-    λ t. c.word-2.ensures ∙ own_bracket t c.args.pool.now c.args.i _ (sym c.kind-k.ensures) (omega arith) (omega arith) c.if-k-eq6.false
+pub returns-in_default : goal.returns-in_default
+returns-in_default c =
+    rw (← c.node_at-n.ensures.0, ← c.node_at-n.ensures.1)
+    (λ t. c.place.ensures ∙ own_bracket _ _ _ c.expression.ensures c.in_default.not-Nothing c.in_default.not-Element t)

@@ -3,51 +3,40 @@ use mathlib.Core.Path.{refl, sym, subst, ◌∙◌}
 use mathlib.Core.Bool.{true, false}
 use Prim.Native.Nat.{◌+◌, ◌≤◌, ◌<◌}
 use native.Mathlib.Omega.{arith}
-use Rattle.paper.specs.Plain.{truth, number, parts}
-use Rattle.tree.specs.Trees.{whole_at}
+use Rattle.paper.specs.Plain.{truth, parts}
 use Rattle.plain.proofs.Forms.{put_truth}
-use Rattle.unwind.proofs.Emits.{leaf_did}
-use Rattle.unwind.proofs.Parting.{put_number_at}
-use Rattle.unwind.proofs.Exprs.{true_plain, nil_plain, false_plain, number_plain}
-use Rattle.unwind.proofs.Settling.{nil_in, flag_in, number_in}
+use Rattle.unwind.proofs.Emits.{spelt_one, leaf_did}
+use Rattle.unwind.proofs.Exprs.{true_plain, false_plain, number_plain}
+use Rattle.unwind.proofs.Settling.{flag_in, number_in}
 use Rattle.unwind.proofs.parts.constant.Goals as goal
 
-pub returns-then-k-eq4 : goal.returns-then-k-eq4
+pub returns-in-4 : goal.returns-in-4
 unfolding parts
-returns-then-k-eq4 c =
+returns-in-4 c =
     λ t vs env size.
-    leaf_did c.args.out.now _ c.args.count _ _ _ _ _ c.emit.ensures c.ended.result c.ended.ensures.0 c.ended.ensures.1 c.ended.ensures.2 vs size _ (truth true) _
-    (true_plain t c.args.pool.now c.args.i _ (sym c.kind-k.ensures) vs env c.args.t c.if-k-eq4.true)
-    (c.ended.ensures.3 ∙ flag_in t c.args.pool.now c.args.i _ (sym c.kind-k.ensures) vs c.args.t (omega (arith, c.if-k-eq4.true)) (λ l. omega (arith, c.if-k-eq4.true)))
-    refl
-    (λ h. put_truth c.args.out.now (c.args.count + 1) 0 0 0 (omega arith) h true)
+    let A = c.args in
+    let r = c.ended in
+    leaf_did A.out.now _ A.count _ (truth true) r.result (spelt_one _ _ _ _ _ _ _ _ _ c.emit.ensures (λ h. put_truth A.out.now (A.count + 1) 0 0 0 (omega arith) h true)) r.ensures.0 r.ensures.1 refl vs size _ _
+    (λ ins. true_plain t A.pool.now A.i _ (sym c.kind.ensures) vs env A.t c.in-4.is)
+    (r.ensures.2 ∙ flag_in t A.pool.now A.i _ (sym c.kind.ensures) vs A.t (λ l. omega (arith, c.in-4.is)) (λ l. omega (arith, c.in-4.is)))
 
-pub returns-then-k-eq0 : goal.returns-then-k-eq0
+pub returns-in-1 : goal.returns-in-1
 unfolding parts
-returns-then-k-eq0 c =
+returns-in-1 c =
     λ t vs env size.
-    leaf_did c.args.out.now _ c.args.count _ _ _ _ _ c.emit-then-k-eq0.ensures c.ended-then-k-eq0.result c.ended-then-k-eq0.ensures.0 c.ended-then-k-eq0.ensures.1 c.ended-then-k-eq0.ensures.2 vs size _ (truth false) _
-    (nil_plain t c.args.pool.now c.args.i _ (sym c.kind-k.ensures) vs env c.args.t c.if-k-eq0.true)
-    (c.ended-then-k-eq0.ensures.3 ∙ nil_in t c.args.pool.now c.args.i _ (sym c.kind-k.ensures) vs c.args.t c.if-k-eq0.true)
-    refl
-    (λ h. put_truth c.args.out.now (c.args.count + 1) 0 0 0 (omega arith) h false)
+    let A = c.args in
+    let r = c.ended-in-1 in
+    leaf_did A.out.now _ A.count _ _ r.result c.number_at.ensures r.ensures.0 r.ensures.1 refl vs size _ _
+    (λ ins. number_plain t A.pool.now A.i _ (sym c.kind.ensures) vs env A.t (omega arith) (omega arith))
+    (r.ensures.2 ∙ number_in t A.pool.now A.i _ (sym c.kind.ensures) vs A.t (omega arith) (omega arith))
 
-pub returns-then-k-gt2 : goal.returns-then-k-gt2
+pub returns-in_default : goal.returns-in_default
 unfolding parts
-returns-then-k-gt2 c =
+returns-in_default c =
     λ t vs env size.
-    leaf_did c.args.out.now _ c.args.count _ _ _ _ _ c.emit-then-k-gt2.ensures c.ended-then-k-gt2.result c.ended-then-k-gt2.ensures.0 c.ended-then-k-gt2.ensures.1 c.ended-then-k-gt2.ensures.2 vs size _ (truth false) _
-    (false_plain t c.args.pool.now c.args.i _ (sym c.kind-k.ensures) vs env c.args.t c.if-k-gt2.true c.if-k-eq4.false (λ l. subst (λ w. 24 < w) (sym c.kind-k.ensures) (c.requires.1 (subst (λ w. 5 ≤ w) c.kind-k.ensures l))))
-    (c.ended-then-k-gt2.ensures.3 ∙ flag_in t c.args.pool.now c.args.i _ (sym c.kind-k.ensures) vs c.args.t c.if-k-gt2.true (λ l. subst (λ w. 24 < w) (sym c.kind-k.ensures) (c.requires.1 (subst (λ w. 5 ≤ w) c.kind-k.ensures l))))
-    refl
-    (λ h. put_truth c.args.out.now (c.args.count + 1) 0 0 0 (omega arith) h false)
-
-pub returns : goal.returns
-unfolding parts
-returns c =
-    λ t vs env size.
-    leaf_did c.args.out.now _ c.args.count _ _ _ _ _ c.emit-2.ensures c.ended-2.result c.ended-2.ensures.0 c.ended-2.ensures.1 c.ended-2.ensures.2 vs size _ (number c.args.t (whole_at c.args.pool.now c.args.i)) _
-    (number_plain t c.args.pool.now c.args.i _ (sym c.kind-k.ensures) vs env c.args.t (omega arith) (omega arith))
-    (c.ended-2.ensures.3 ∙ number_in t c.args.pool.now c.args.i _ (sym c.kind-k.ensures) vs c.args.t (omega arith) (omega arith))
-    refl
-    (λ h. put_number_at c.args.out.now (c.args.count + 1) c.args.pool.now c.args.i _ _ _ _ c.args.t (omega arith) h c.kind-k.ensures (omega arith) (omega arith) c.word-low.ensures c.word-high.ensures c.tag_of.ensures)
+    let A = c.args in
+    let r = c.ended-in_default in
+    let over : 5 ≤ c.kind.result → 24 < c.kind.result = λ l. subst (λ w. 24 < w) (sym c.kind.ensures) (c.requires.1 (subst (λ w. 5 ≤ w) c.kind.ensures l)) in
+    leaf_did A.out.now _ A.count _ (truth false) r.result (spelt_one _ _ _ _ _ _ _ _ _ c.emit-in_default.ensures (λ h. put_truth A.out.now (A.count + 1) 0 0 0 (omega arith) h false)) r.ensures.0 r.ensures.1 refl vs size _ _
+    (λ ins. false_plain t A.pool.now A.i _ (sym c.kind.ensures) vs env A.t (λ l. omega arith) (λ z. omega arith) over)
+    (r.ensures.2 ∙ flag_in t A.pool.now A.i _ (sym c.kind.ensures) vs A.t (λ l. omega arith) over)
