@@ -1,6 +1,6 @@
 -- Values of cells by their numbers: whether they fit, as held, and as lent.
-use mathlib.Core.Path.{◌≡◌, refl, sym, ap, ap₂, ◌∙◌}
-use mathlib.Core.Bool.{Bool, true, false, not, cond, ◌&&◌}
+use mathlib.Core.Path.{◌≡◌, refl, sym, ap, ◌∙◌}
+use mathlib.Core.Bool.{Bool, true, false, not, ◌&&◌}
 use mathlib.Core.List.{List, [], ◌∷◌, map}
 use Prim.Native.Nat.{ℕ, zero, suc, ◌+◌, ◌^◌, ◌≤◌, ◌<◌}
 use native.Mathlib.Numerals.{add-one}
@@ -13,8 +13,7 @@ use mir.Syntax.{w64}
 use mir.Val.{to_z, of_z}
 use mir.Facts.{to_z-of_z}
 use borrow.Author.Tests.{not-true, not-false}
-use Rattle.paper.specs.declared.Ty.{Ty}
-use Rattle.paper.specs.Types.{fits, encode, decode}
+use Rattle.paper.specs.Types.{decode}
 use Rattle.paper.specs.Names.{Info}
 use Rattle.paper.specs.Plain.{State}
 use Rattle.paper.specs.Judge.{cell_fits, all_fit, held, lent, put_readings}
@@ -23,25 +22,6 @@ use Rattle.cells.specs.Numbers.{info_of, held_of, read_in}
 -- a value in a buffer, and as the machine reads it
 pub as_read : (z : ℤ) → mag z < 2 ^ 63 → to_z w64 (of_z w64 z) ≡ z
 as_read z l = to_z-of_z {w = w64} {z = z} (record { sfits = l })
-
--- ---- one cell
-
-module _ (i : Info) (z x : ℤ) (t : Ty) (a : Bool) (h : t ≡ i.ty) (k : a ≡ fits t z) where
-  cell_is : (q : Bool) → q ≡ i.is_input → a && cond q (fits t x) true ≡ cell_fits i z x
-  cell_is q g = ap₂ (λ a q. a && cond q (fits t x) true) k g ∙ ap (λ t. fits t z && cond i.is_input (fits t x) true) h
-
-  pub value_unfit : not a ≡ true → false ≡ cell_fits i z x
-  value_unfit e = sym (ap (λ a. a && cond i.is_input (fits t x) true) (not-true a e)) ∙ cell_is _ refl
-
-  pub reading_fits : (q s : Bool) → not a ≡ false → q ≡ i.is_input → q ≡ true → s ≡ fits t x → s ≡ cell_fits i z x
-  reading_fits q s e g d b = b ∙ sym (ap₂ (λ a q. a && cond q (fits t x) true) (not-false a e) d) ∙ cell_is q g
-
-  pub value_fits : (q : Bool) → not a ≡ false → q ≡ i.is_input → q ≡ false → true ≡ cell_fits i z x
-  value_fits q e g d = sym (ap₂ (λ a q. a && cond q (fits t x) true) (not-false a e) d) ∙ cell_is q g
-
--- what a cell holds, by the branch taken
-pub cell_holds : (i : Info) (z x : ℤ) (t : Ty) (q b : Bool) (r : ℕ) → t ≡ i.ty → q ≡ i.is_input → q ≡ b → r ≡ cond b (encode t x) (encode t z) → r ≡ held_of i z x
-cell_holds i z x t q b r h g d e = e ∙ ap₂ (λ b t. cond b (encode t x) (encode t z)) (sym d ∙ g) h
 
 -- ---- whether all fit, from a place on
 

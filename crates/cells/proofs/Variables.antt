@@ -1,48 +1,21 @@
 -- The cells and the declared values of the variables of a table: as many for each variable as it has cells.
-use mathlib.Core.Path.{◌≡◌, refl, sym, ap, ap₂, ◌∙◌}
-use mathlib.Core.Bool.{Bool, true, false, cond}
+use mathlib.Core.Path.{◌≡◌, refl, sym, ap, ◌∙◌}
 use mathlib.Core.List.{List, [], ◌∷◌, ◌++◌, map, append-nil, append_assoc, map-append}
 use Prim.Native.Nat.{ℕ, zero, suc, ◌+◌, ◌/◌}
 use native.Mathlib.Numerals.{add-one}
 use native.Mathlib.Omega.{arith}
-use borrow.Author.Tests.{ne_eqb}
-use lib.Dec.{eqb}
-use lib.IntN.{ℤ, pos}
+use lib.IntN.{ℤ}
 use lib.ListN.{length, replicate, length-append, length-replicate, length-map}
-use Rattle.paper.specs.declared.Ty.{Ty}
-use Rattle.paper.specs.declared.Kind.{Kind}
 use Rattle.paper.specs.declared.Kind.TheVariants.{Input}
-use Rattle.paper.specs.Types.{tag}
-use Rattle.paper.specs.Source.{flag, nothing}
-use Rattle.paper.specs.Names.{Info, Variable, size_of, kind_tag, same_kind, cells_of}
+use Rattle.paper.specs.Names.{Info, Variable, size_of, same_kind, cells_of}
 use Rattle.paper.specs.Tables.{infos_of}
 use Rattle.paper.specs.Judge.{initial_value, start_of}
-use Rattle.tree.specs.Nodes.{word_of, kind_of, child_of}
-use Rattle.tree.specs.Trees.{place_at, whole_at, initial_at}
+use Rattle.tree.specs.Nodes.{word_of}
 use Rattle.variables.specs.Table.{bounds_in, node_in, entry_at, listed_to, listed_in}
 use Rattle.cells.specs.Pour.{Poured, Filled}
 use Rattle.cells.specs.Numbers.{number_of, CellsIn, StartIn}
 use Rattle.cells.proofs.Pours.{pour_over, poured_start, poured_more, poured_front}
 use Rattle.cells.proofs.Infos.{infos_back}
-
--- ---- one variable
-
-pub number_is : (t : Ty) (k : Kind) (m s : ℕ) (b : Bool) → m ≡ tag t → s ≡ kind_tag k → eqb 0 s ≡ b
-    → m + cond b 8 0 ≡ number_of (record { ty = t; is_input = same_kind Input k })
-number_is t k m s b h e g = ap₂ (λ m q. m + cond q 8 0) h (sym g ∙ ap (eqb 0) e)
-
-pub value_number : (p : List ℕ) (i : ℕ) (z : ℤ) → kind_of p i ≡ 35 → z ≡ whole_at p (child_of p i 1) → z ≡ initial_value (initial_at p i)
-value_number p i z k h = rw k h
-
-pub value_true : (p : List ℕ) (i : ℕ) → kind_of p i ≡ 37 → pos 1 ≡ initial_value (initial_at p i)
-value_true p i k = rw k
-
-pub value_none : (p : List ℕ) (i : ℕ) → (kind_of p i ≡ 35 → ⊥) → (kind_of p i ≡ 37 → ⊥) → pos 0 ≡ initial_value (initial_at p i)
-value_none p i a b = rw (ne_eqb (kind_of p i) 35 a, ne_eqb (kind_of p i) 37 b) (go (eqb (kind_of p i) 36))
-  where
-    go : (t : Bool) → pos 0 ≡ initial_value (cond t (flag (place_at p i) false) nothing)
-    go true = refl
-    go false = refl
 
 -- ---- one after another
 

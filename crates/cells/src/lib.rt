@@ -2,22 +2,24 @@
 // Values as lent and as held, refusal 12, and the cells and the starting state of declared variables.
 #![tactic(auto)]
 
-ghost use Rattle.std.specs.Prelude.{◌≡◌, ◌+◌, ◌*◌, ◌≤◌, min, length};
+ghost use Rattle.std.specs.Prelude.{◌≡◌, ◌+◌, ◌*◌, ◌≤◌, length};
 ghost use Rattle.paper.specs.Judge.{cell_fits, all_fit, lent, over, initial_value};
 ghost use Rattle.variables.specs.Table.{initial_in};
 ghost use Rattle.cells.specs.Pour.{Filled};
 ghost use Rattle.cells.specs.Numbers.{info_of, number_of, held_of, Says, read_in, declared_info, CellsIn, StartIn};
 
-use paper::Ty;
-use tree::{child, kind, whole};
-use value::{fits, residue_of, tag_of, value_of};
-use variables::{declaration_of, section_of, size_of, type_at, type_of};
+use paper::{Kind, Ty};
+use tree::kinds::Initial;
+use tree::node::Node;
+use value::{fits, residue_of, type_with, value_of};
+use variables::declared::{section_of, size_of, type_of};
+use variables::listed::declaration_in;
 
 // The type of a cell; BOOL where the number names none.
 pub fn cell_type(x: u32) -> Ty
     ensures { result ≡ (info_of x).ty }
 {
-    type_at((x % 8) as u16)
+    type_with(x % 8)
 }
 
 // Whether a cell is an input.
@@ -34,13 +36,7 @@ fn cell_fits(x: u32, value: i64, reading: i64) -> bool
     ensures { result ≡ cell_fits (info_of x) value reading }
 {
     let t = cell_type(x);
-    if !fits(t, value) {
-        return false;
-    }
-    if is_input(x) {
-        return fits(t, reading);
-    }
-    true
+    fits(t, value) && (!is_input(x) || fits(t, reading))
 }
 
 // The same of every cell.
@@ -48,12 +44,10 @@ pub fn fit(cells: &[u32], state: &[i64], inputs: &[i64]) -> bool
     requires { (length cells.now ≤ length state.now) × (length cells.now ≤ length inputs.now) }
     ensures { Says cells.now (λ is. result ≡ all_fit is state.now inputs.now) }
 {
-    let mut i = 0;
-    while i < cells.len() {
-        if !cell_fits(cells[i], state[i], inputs[i]) {
+    for (i, x) in cells.iter().enumerate() {
+        if !cell_fits(*x, state[i], inputs[i]) {
             return false;
         }
-        i += 1;
     }
     true
 }
@@ -66,9 +60,10 @@ fn cell_held(x: u32, value: i64, reading: i64) -> u32
 {
     let t = cell_type(x);
     if is_input(x) {
-        return residue_of(t, reading);
+        residue_of(t, reading)
+    } else {
+        residue_of(t, value)
     }
-    residue_of(t, value)
 }
 
 // The lent state as held, with the readings put.
@@ -76,10 +71,8 @@ pub fn hold(cells: &[u32], state: &[i64], inputs: &[i64], values: &mut [u32])
     requires { (length cells.now ≤ length state.now) × (length cells.now ≤ length inputs.now) × (length cells.now ≤ length values.old) }
     ensures { Says cells.now (λ is. values.new ≡ over (read_in is state.now inputs.now) values.old) }
 {
-    let mut i = 0;
-    while i < cells.len() {
-        values[i] = cell_held(cells[i], state[i], inputs[i]);
-        i += 1;
+    for (i, x) in cells.iter().enumerate() {
+        values[i] = cell_held(*x, state[i], inputs[i]);
     }
 }
 
@@ -88,61 +81,36 @@ pub fn lend(cells: &[u32], held: &[u32], state: &mut [i64])
     requires { (length cells.now ≤ length held.now) × (length cells.now ≤ length state.old) }
     ensures { Says cells.now (λ is. state.new ≡ over (lent is held.now) state.old) }
 {
-    let mut i = 0;
-    while i < cells.len() {
-        state[i] = value_of(cell_type(cells[i]), held[i]);
-        i += 1;
+    for (i, x) in cells.iter().enumerate() {
+        state[i] = value_of(cell_type(*x), held[i]);
     }
 }
 
 // ---- declared variables
 
-// The place behind `n` places from `at` on, or the end.
-fn end_of(at: usize, n: usize, len: usize) -> usize
-    requires { at ≤ len }
-    ensures { result ≡ min (at + n) len }
+// Writes `n` times `x` from `at` on, as far as there is room: the place behind.
+#[tactic(auto, using(crate::proofs::Pours::fill_start, crate::proofs::Pours::fill_step, crate::proofs::Pours::fill_end))]
+fn fill<T: Copy>(list: &mut [T], at: usize, n: usize, x: T) -> usize
+    requires { at ≤ length list.old }
+    ensures { Filled at n x list.old list.new result }
 {
-    if n < len - at { at + n } else { len }
-}
-
-// Writes `n` cells of one number from `at` on, as far as there is room.
-fn fill(cells: &mut [u32], at: usize, n: usize, x: u32) -> usize
-    requires { at ≤ length cells.old }
-    ensures { Filled at n x cells.old cells.new result }
-{
-    let end = end_of(at, n, cells.len());
-    let mut i = at;
-    while i < end {
-        cells[i] = x;
-        i += 1;
-    }
-    end
-}
-
-// The same of values.
-fn fill_values(state: &mut [i64], at: usize, n: usize, z: i64) -> usize
-    requires { at ≤ length state.old }
-    ensures { Filled at n z state.old state.new result }
-{
-    let end = end_of(at, n, state.len());
-    let mut i = at;
-    while i < end {
-        state[i] = z;
-        i += 1;
+    let end = at + n.min(list.len() - at);
+    for i in at..end {
+        list[i] = x;
     }
     end
 }
 
 // The number of the cells of a declared variable.
-fn cell_number(pool: &[u16], j: usize) -> u32
-    requires { 4 * j + 4 ≤ length pool.now }
-    ensures { result ≡ number_of (declared_info pool.now j) }
+fn cell_number(n: Node) -> u32
+    ensures { result ≡ number_of (declared_info n.entry.pool.now n.entry.at) }
 {
-    let tag = tag_of(type_of(pool, j)) as u32;
-    if section_of(pool, j) == 0 {
-        return tag + 8;
+    let tag = u8::from(type_of(n)) as u32;
+    if section_of(n) == Kind::Input {
+        tag + 8
+    } else {
+        tag
     }
-    tag
 }
 
 // The cells of the variables of a table in order, as many as there is room for.
@@ -150,31 +118,24 @@ pub fn cells_of(pool: &[u16], table: &[u16], cells: &mut [u32]) -> usize
     requires { 4 ≤ length pool.now }
     ensures { CellsIn pool.now table.now cells.old cells.new result }
 {
-    let n = table.len() / 4;
     let mut at = 0;
-    let mut v = 0;
-    while v < n {
-        let j = declaration_of(pool, table, v);
-        at = fill(cells, at, size_of(pool, j), cell_number(pool, j));
-        v += 1;
+    for v in 0..table.len() / 4 {
+        let n = declaration_in(pool, table, v);
+        at = fill(cells, at, size_of(n), cell_number(n));
     }
     at
 }
 
 // The declared value of a variable, 0 where there is none.
-fn declared_value(pool: &[u16], j: usize) -> i64
-    requires { 4 * j + 4 ≤ length pool.now }
-    ensures { result ≡ initial_value (initial_in pool.now j) }
+fn declared_value(n: Node) -> i64
+    ensures { result ≡ initial_value (initial_in n.entry.pool.now n.entry.at) }
 {
-    let i = child(pool, child(pool, j, 2), 2);
-    let k = kind(pool, i);
-    if k == 35 {
-        return whole(pool, child(pool, i, 1));
+    let value = n.child(2).child(2);
+    match value.initial() {
+        Initial::Value => value.child(1).whole(),
+        Initial::Flag(true) => 1,
+        Initial::Flag(false) | Initial::Nothing => 0,
     }
-    if k == 37 {
-        return 1;
-    }
-    0
 }
 
 // The declared values of the variables of a table in order, as many as there is room for.
@@ -182,12 +143,9 @@ pub fn start(pool: &[u16], table: &[u16], state: &mut [i64])
     requires { 4 ≤ length pool.now }
     ensures { StartIn pool.now table.now state.old state.new }
 {
-    let n = table.len() / 4;
     let mut at = 0;
-    let mut v = 0;
-    while v < n {
-        let j = declaration_of(pool, table, v);
-        at = fill_values(state, at, size_of(pool, j), declared_value(pool, j));
-        v += 1;
+    for v in 0..table.len() / 4 {
+        let n = declaration_in(pool, table, v);
+        at = fill(state, at, size_of(n), declared_value(n));
     }
 }

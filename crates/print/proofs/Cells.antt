@@ -5,8 +5,8 @@ use mathlib.Core.List.{List, [], ◌∷◌, ◌++◌}
 use Prim.Native.Nat.{ℕ, zero, suc, ◌+◌, ◌-◌, ◌/◌, ◌≤◌, ◌<◌}
 use native.Mathlib.Numerals.{add-one}
 use native.Mathlib.Omega.{arith}
-use borrow.Author.Tests.{eqb-true, eqb-false, ltb-true, ltb-false, lt-ltb, le-ltb, leb-true, le-leb}
-use lib.Dec.{eqb, ltb, leb}
+use borrow.Author.Tests.{eqb-true, eqb-false, leb-true}
+use lib.Dec.{eqb, leb}
 use lib.ListN.{length, get_or, drop, length-append, get_or-append}
 use lib.Seq.{drop-cons, drop-length, get_or_at}
 use Rattle.paper.specs.Source.{Bounds, single, array}
@@ -69,13 +69,6 @@ module _ (t p tab : List ℕ) where
     missing = ap (λ vs. cell vs c k) rest_none
 
 -- ---- which variable has a cell
-
-pub in_range : (f c n : ℕ) → f ≤ c → ltb (c - f) n ≡ (leb f c && ltb c (f + n))
-in_range f c n l = rw (le-leb f c l) (go (ltb c (f + n)) refl)
-  where
-    go : (b : Bool) → ltb c (f + n) ≡ b → ltb (c - f) n ≡ b
-    go true e = let h : c < f + n = ltb-true c (f + n) e in lt-ltb (c - f) n (omega arith)
-    go false e = let h : f + n ≤ c = ltb-false c (f + n) e in le-ltb (c - f) n (omega arith)
 
 pub holds_from : (p tab : List ℕ) (c v : ℕ) → holds p tab c v ≡ true → word_of tab v 2 ≤ c
 holds_from p tab c v = go (leb (word_of tab v 2) c) refl _

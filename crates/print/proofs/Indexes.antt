@@ -4,10 +4,9 @@ use mathlib.Core.Bool.{Bool, true, false, cond, ◌&&◌}
 use mathlib.Core.List.{List}
 use Prim.Native.Nat.{ℕ, ◌+◌, ◌/◌, ◌≤◌, ◌<◌}
 use native.Mathlib.Omega.{arith}
-use borrow.Author.Tests.{eqb-true, eqb-false, ltb-true, ltb-false, leb-true, lt-ltb, le-ltb, le-leb}
-use lib.Dec.{eqb, ltb, leb}
-use lib.ListN.{length, get_or, set}
-use lib.Seq.{get_or-set_same, get_or-set_other}
+use borrow.Author.Tests.{ltb-true, ltb-false, lt-ltb, le-ltb}
+use lib.Dec.{ltb, leb}
+use lib.ListN.{length, get_or}
 use Rattle.paper.specs.Names.{size_of}
 use Rattle.paper.specs.Printing.{cell, cell_of_variable}
 use Rattle.tree.specs.Nodes.{word_of}
@@ -26,23 +25,6 @@ same_below i c e l h = go (ltb i e) refl
     go : (b : Bool) → ltb i e ≡ b → ltb i c ≡ b
     go true q = lt-ltb i c (h (ltb-true i e q))
     go false q = let m : e ≤ i = ltb-false i e q in le-ltb i c (omega arith)
-
-pub none_entered : (first v : ℕ) (old : List ℕ) → EnteredTo first v old first old
-none_entered first v old i l = go (leb first i) refl
-  where
-    go : (b : Bool) → leb first i ≡ b → get_or old i 0 ≡ cond (b && ltb i first) v (get_or old i 0)
-    go true q = rw (le-ltb i first (leb-true first i q))
-    go false q = refl
-
-pub one_entered : (first v : ℕ) (old : List ℕ) (c : ℕ) (is : List ℕ) → first ≤ c → c < length is → EnteredTo first v old c is
-    → EnteredTo first v old (c + 1) (set is c v)
-one_entered first v old c is l s h i m = go (eqb i c) refl
-  where
-    go : (b : Bool) → eqb i c ≡ b → get_or (set is c v) i 0 ≡ cond (leb first i && ltb i (c + 1)) v (get_or old i 0)
-    go true q = rw (eqb-true i c q, le-leb first c l, lt-ltb c (c + 1) (omega arith)) (get_or-set_same is c v 0 s)
-    go false q =
-        let d = eqb-false i c q in
-        rw (← same_below i c (c + 1) (omega arith) (λ k. omega arith)) (get_or-set_other is c i v 0 d ∙ h i m)
 
 pub all_entered : (p tab : List ℕ) (first v : ℕ) (old : List ℕ) (c : ℕ) (is : List ℕ) (j n : ℕ) → first ≡ word_of tab v 2
     → j ≡ node_in p (word_of tab v 1) → n ≡ size_of (bounds_in p j) → c ≤ first + n → ((i : ℕ) → i < 64 → i < first + n → i < c)

@@ -1,6 +1,6 @@
 -- The digits of a number.
-use mathlib.Core.Path.{◌≡◌, refl}
-use mathlib.Core.Bool.{Bool, true, false, cond}
+use mathlib.Core.Path.{◌≡◌}
+use mathlib.Core.Bool.{Bool, true, cond}
 use mathlib.Core.List.{List, ◌∷◌}
 use Prim.Native.Nat.{ℕ, zero, suc, ◌+◌, ◌/◌, ◌%◌, ◌≤◌, ◌<◌}
 use native.Mathlib.Omega.{arith}
@@ -33,7 +33,3 @@ module _ {old new : List ℕ} {at n r : ℕ} where
 pub minus_number : (m : Bool) (n : ℕ) (k : List ℕ) → m ≡ true → 0 < n → whole (cond m (neg_ℤ (pos n)) (pos n)) k ≡ put "-" (natural n k)
 minus_number m zero k e l = absurd (omega arith)
 minus_number m (suc n) k e l = rw e
-
-pub plain_number_lem : (m : Bool) (n : ℕ) (k : List ℕ) → (m ≡ true → n ≡ 0) → whole (cond m (neg_ℤ (pos n)) (pos n)) k ≡ natural n k
-plain_number_lem true n k e = rw (e refl)
-plain_number_lem false n k e = refl

@@ -2,12 +2,9 @@
 use mathlib.Core.Path.{◌≡◌, refl, sym, ap, ◌∙◌}
 use mathlib.Core.Bool.{Bool, true, false, cond}
 use mathlib.Core.List.{List, [], ◌∷◌, ◌++◌}
-use Prim.Native.Nat.{ℕ, zero, suc, ◌+◌, ◌<◌}
+use Prim.Native.Nat.{ℕ, ◌+◌}
 use native.Mathlib.Numerals.{add-one}
-use native.Mathlib.Omega.{arith}
 use Prim.Native.String.{String}
-use borrow.Author.Tests.{eq-eqb, ne_eqb}
-use lib.Dec.{eqb}
 use lib.ListN.{length, length-append}
 use Rattle.paper.specs.declared.Ty.{Ty}
 use Rattle.paper.specs.declared.Ty.TheVariants.{Bool as BOOL, Int as INT, Uint as UINT, Dint as DINT, Udint as UDINT}
@@ -16,65 +13,27 @@ use Rattle.paper.specs.declared.Kind.TheVariants.{Input, Output, Other}
 use Rattle.paper.specs.Words.{bytes, type_name}
 use Rattle.paper.specs.Types.{same_ty}
 use Rattle.paper.specs.Source.{Bounds, single, array, nothing, Declared}
-use Rattle.paper.specs.Names.{kind_tag, same_kind, of_kind, is_array}
-use Rattle.paper.specs.Printing.{put, line, natural, whole, initial_of, declaration_of, declarations, section, sections}
-use Rattle.tree.specs.Nodes.{word_of, kind_of, child_of}
-use Rattle.tree.specs.Trees.{wide, whole_at, place_at, initial_at}
+use Rattle.paper.specs.Names.{same_kind, of_kind, is_array}
+use Rattle.paper.specs.Printing.{put, line, initial_of, declaration_of, declarations, section, sections}
+use Rattle.tree.specs.Nodes.{word_of, child_of}
+use Rattle.tree.specs.Trees.{initial_at}
 use Rattle.variables.specs.Table.{type_at, section_at, bounds_in, node_in, name_in, entry_at, entries}
-use Rattle.print.specs.Parts.{section_of, of_section, is_of, declared_in, typing, array_of, headed}
+use Rattle.print.specs.Parts.{of_section, is_of, declared_in, typing, headed}
 
 -- ---- values
 
 -- what stands for none
-false_of : (t : Ty) (k : List ℕ) → same_ty t BOOL ≡ true → initial_of t nothing k ≡ put "FALSE" k
-false_of BOOL k e = refl
-false_of INT k e = cc
-false_of UINT k e = cc
-false_of DINT k e = cc
-false_of UDINT k e = cc
-
-zero_of : (t : Ty) (k : List ℕ) → same_ty t BOOL ≡ false → initial_of t nothing k ≡ put "0" k
+pub zero_of : (t : Ty) (k : List ℕ) → same_ty t BOOL ≡ false → initial_of t nothing k ≡ put "0" k
 zero_of BOOL k e = cc
 zero_of INT k e = refl
 zero_of UINT k e = refl
 zero_of DINT k e = refl
 zero_of UDINT k e = refl
 
--- by the kind w of its node
-module _ (t : Ty) (p : List ℕ) (i w : ℕ) (is : w ≡ kind_of p i) (k : List ℕ) where
-  yes : (n : ℕ) → w ≡ n → eqb (kind_of p i) n ≡ true
-  yes n e = ap (λ w. eqb w n) (sym is) ∙ eq-eqb w n e
-
-  no : (n : ℕ) → (w ≡ n → ⊥) → eqb (kind_of p i) n ≡ false
-  no n e = ap (λ w. eqb w n) (sym is) ∙ ne_eqb w n e
-
-  pub a_value : w ≡ 35 → initial_of t (initial_at p i) k ≡ whole (whole_at p (child_of p i 1)) k
-  a_value e = rw (yes 35 e)
-
-  pub a_false : (w ≡ 35 → ⊥) → w ≡ 36 → initial_of t (initial_at p i) k ≡ put "FALSE" k
-  a_false e f = rw (no 35 e, yes 36 f)
-
-  pub a_true : (w ≡ 35 → ⊥) → (w ≡ 36 → ⊥) → w ≡ 37 → initial_of t (initial_at p i) k ≡ put "TRUE" k
-  a_true e f g = rw (no 35 e, no 36 f, yes 37 g)
-
-  no_value : (w ≡ 35 → ⊥) → (w ≡ 36 → ⊥) → (w ≡ 37 → ⊥) → initial_of t (initial_at p i) k ≡ initial_of t nothing k
-  no_value e f g = rw (no 35 e, no 36 f, no 37 g)
-
-  pub none_false : (w ≡ 35 → ⊥) → (w ≡ 36 → ⊥) → (w ≡ 37 → ⊥) → same_ty t BOOL ≡ true → initial_of t (initial_at p i) k ≡ put "FALSE" k
-  none_false e f g h = no_value e f g ∙ false_of t k h
-
-  pub none_zero : (w ≡ 35 → ⊥) → (w ≡ 36 → ⊥) → (w ≡ 37 → ⊥) → same_ty t BOOL ≡ false → initial_of t (initial_at p i) k ≡ put "0" k
-  none_zero e f g h = no_value e f g ∙ zero_of t k h
-
 -- ---- declarations, by their section and their bounds
 
 module _ (d : Declared) (k : List ℕ) where
-  input : (s : Kind) (b : Bounds) → kind_tag s ≡ 0 → declaration_of s b d k ≡ type_name d.ty ++ line ";" k
-  input Input b e = refl
-  input Output b e = absurd (omega arith)
-  input Other b e = absurd (omega arith)
-
-  alone : (s : Kind) (b : Bounds) → (kind_tag s ≡ 0 → ⊥) → is_array b ≡ false
+  alone : (s : Kind) (b : Bounds) → (s ≡ Input → ⊥) → is_array b ≡ false
       → declaration_of s b d k ≡ type_name d.ty ++ put " := " (initial_of d.ty d.initial (line ";" k))
   alone Input b n e = absurd (n refl)
   alone Output single n e = refl
@@ -82,42 +41,23 @@ module _ (d : Declared) (k : List ℕ) where
   alone Output (array p lo q hi) n e = cc
   alone Other (array p lo q hi) n e = cc
 
-  no_array : (s : Kind) (b : Bounds) → kind_tag s ≡ 1 → is_array b ≡ true → declaration_of s b d k ≡ k
-  no_array Input b n e = absurd (omega arith)
+  no_array : (s : Kind) (b : Bounds) → s ≡ Output → is_array b ≡ true → declaration_of s b d k ≡ k
+  no_array Input b n e = cc
   no_array Output single n e = cc
   no_array Output (array p lo q hi) n e = refl
-  no_array Other b n e = absurd (omega arith)
-
-  an_array : (s : Kind) (t : Bool) (p lo q hi : ℕ) → (kind_tag s ≡ 0 → ⊥) → (kind_tag s ≡ 1 → ⊥) → is_array (cond t (array p lo q hi) single) ≡ true
-      → declaration_of s (cond t (array p lo q hi) single) d k
-      ≡ put "ARRAY[" (natural lo (put ".." (natural hi (put "] OF " (type_name d.ty ++ line ";" k)))))
-  an_array Input t p lo q hi m n e = absurd (m refl)
-  an_array Output t p lo q hi m n e = absurd (n refl)
-  an_array Other true p lo q hi m n e = refl
-  an_array Other false p lo q hi m n e = cc
+  no_array Other b n e = cc
 
 -- the same of a declaration's node, from what its words say
-module _ (p : List ℕ) (j s : ℕ) (t : Ty) (is : s ≡ kind_tag (section_at p j)) (type : t ≡ type_at p j) (k : List ℕ) where
+module _ (p : List ℕ) (j : ℕ) (s : Kind) (t : Ty) (is : s ≡ section_at p j) (type : t ≡ type_at p j) (k : List ℕ) where
   abbrev d : Declared
   d = declared_in p j
 
-  pub typing_input : s ≡ 0 → typing p j k ≡ type_name t ++ line ";" k
-  typing_input e = rw type (input d k (section_at p j) (bounds_in p j) (sym is ∙ e))
-
-  pub typing_alone : (i : ℕ) → (s ≡ 0 → ⊥) → is_array (bounds_in p j) ≡ false → i ≡ child_of p (child_of p j 2) 2
+  pub typing_alone : (i : ℕ) → (s ≡ Input → ⊥) → is_array (bounds_in p j) ≡ false → i ≡ child_of p (child_of p j 2) 2
       → typing p j k ≡ type_name t ++ put " := " (initial_of t (initial_at p i) (line ";" k))
   typing_alone i n e a = rw (type, a) (alone d k (section_at p j) (bounds_in p j) (λ z. n (is ∙ z)) e)
 
-  pub typing_none : s ≡ 1 → is_array (bounds_in p j) ≡ true → typing p j k ≡ k
+  pub typing_none : s ≡ Output → is_array (bounds_in p j) ≡ true → typing p j k ≡ k
   typing_none n e = no_array d k (section_at p j) (bounds_in p j) (sym is ∙ n) e
-
-  pub typing_array : (b : ℕ) → (s ≡ 0 → ⊥) → (s ≡ 1 → ⊥) → is_array (bounds_in p j) ≡ true → b ≡ child_of p (child_of p j 2) 1
-      → typing p j k ≡ array_of p b t k
-  typing_array b m n e a =
-      let i = child_of p (child_of p j 2) 1 in
-      rw (type, a)
-      (an_array d k (section_at p j) (eqb (kind_of p i) 34) (place_at p (child_of p i 1)) (wide p (child_of p i 1)) (place_at p (child_of p i 2)) (wide p (child_of p i 2))
-      (λ z. m (is ∙ z)) (λ z. n (is ∙ z)) e)
 
 -- the name and the place of a declaration change nothing
 pub typed_alike : (s : Kind) (b : Bounds) (d e : Declared) (k : List ℕ) → d.ty ≡ e.ty → d.initial ≡ e.initial
@@ -129,12 +69,6 @@ typed_alike Other single d e k t i = rw (t, i)
 typed_alike Other (array p lo q hi) d e k t i = rw t
 
 -- ---- lists of them
-
-pub section_tag : (s : ℕ) → s < 3 → kind_tag (section_of s) ≡ s
-section_tag zero l = refl
-section_tag (suc zero) l = refl
-section_tag (suc (suc zero)) l = refl
-section_tag (suc (suc (suc s))) l = absurd (omega arith)
 
 pub one_of : (s : Kind) (d : Declared) → same_kind s d.kind ≡ true → of_kind s (d ∷ []) ≡ d ∷ []
 unfolding of_kind
@@ -172,43 +106,39 @@ pub one_declaration : (d : Declared) (k : List ℕ) → declarations (d ∷ []) 
 unfolding declarations
 one_declaration d k = refl
 
-module _ (t p tab : List ℕ) (s : ℕ) where
+module _ (t p tab : List ℕ) (s : Kind) where
   pub of_none : of_section t p tab s 0 ≡ []
   unfolding entries of_kind
   of_none = refl
 
-  of_next : (n : ℕ) → of_section t p tab s (n + 1) ≡ of_section t p tab s n ++ of_kind (section_of s) (entry_at t p tab n ∷ [])
+  of_next : (n : ℕ) → of_section t p tab s (n + 1) ≡ of_section t p tab s n ++ of_kind s (entry_at t p tab n ∷ [])
   unfolding entries
-  of_next n = ap (of_section t p tab s) (add-one n) ∙ of_append (section_of s) (entries t p tab n) (entry_at t p tab n ∷ [])
+  of_next n = ap (of_section t p tab s) (add-one n) ∙ of_append s (entries t p tab n) (entry_at t p tab n ∷ [])
 
   pub next_printed : (n : ℕ) (k : List ℕ) → declarations (of_section t p tab s (n + 1)) k
-      ≡ declarations (of_section t p tab s n) (declarations (of_kind (section_of s) (entry_at t p tab n ∷ [])) k)
+      ≡ declarations (of_section t p tab s n) (declarations (of_kind s (entry_at t p tab n ∷ [])) k)
   next_printed n k =
-      ap (λ l. declarations l k) (of_next n) ∙ declarations_append (of_section t p tab s n) (of_kind (section_of s) (entry_at t p tab n ∷ [])) k
+      ap (λ l. declarations l k) (of_next n) ∙ declarations_append (of_section t p tab s n) (of_kind s (entry_at t p tab n ∷ [])) k
 
   pub next_count : (n : ℕ) → length (of_section t p tab s (n + 1))
-      ≡ length (of_section t p tab s n) + cond (same_kind (section_of s) (entry_at t p tab n).kind) 1 0
+      ≡ length (of_section t p tab s n) + cond (same_kind s (entry_at t p tab n).kind) 1 0
   next_count n =
-      ap length (of_next n) ∙ length-append (of_section t p tab s n) (of_kind (section_of s) (entry_at t p tab n ∷ []))
-      ∙ ap (λ m. length (of_section t p tab s n) + m) (count_of (section_of s) (entry_at t p tab n) _ refl)
+      ap length (of_next n) ∙ length-append (of_section t p tab s n) (of_kind s (entry_at t p tab n ∷ []))
+      ∙ ap (λ m. length (of_section t p tab s n) + m) (count_of s (entry_at t p tab n) _ refl)
 
   -- the variable n, from what its words say
   pub variable_printed : (n j : ℕ) → is_of p tab s n ≡ true → j ≡ node_in p (word_of tab n 1) → (k : List ℕ)
-      → declarations (of_kind (section_of s) (entry_at t p tab n ∷ [])) k ≡ name_in t tab n ++ put " : " (typing p j k)
+      → declarations (of_kind s (entry_at t p tab n ∷ [])) k ≡ name_in t tab n ++ put " : " (typing p j k)
   variable_printed n j e d k =
       let v = entry_at t p tab n in
-      ap (λ l. declarations l k) (one_of (section_of s) v e)
+      ap (λ l. declarations l k) (one_of s v e)
       ∙ one_declaration v k
       ∙ rw d (ap (λ l. v.name ++ put " : " l) (typed_alike v.kind v.bounds v (declared_in p (node_in p (word_of tab n 1))) k refl refl))
 
-  pub variable_passed : (n : ℕ) → is_of p tab s n ≡ false → (k : List ℕ) → declarations (of_kind (section_of s) (entry_at t p tab n ∷ [])) k ≡ k
-  variable_passed n e k = ap (λ l. declarations l k) (none_of (section_of s) (entry_at t p tab n) e) ∙ no_declarations k
+  pub variable_passed : (n : ℕ) → is_of p tab s n ≡ false → (k : List ℕ) → declarations (of_kind s (entry_at t p tab n ∷ [])) k ≡ k
+  variable_passed n e k = ap (λ l. declarations l k) (none_of s (entry_at t p tab n) e) ∙ no_declarations k
 
 -- ---- sections
-
-pub headed_none : (h : List ℕ) (ds : List Declared) (k : List ℕ) → length ds ≡ 0 → headed h ds k ≡ k
-headed_none h [] k e = refl
-headed_none h (d ∷ ds) k e = absurd (omega arith)
 
 pub headed_some : (h : List ℕ) (ds : List Declared) (k : List ℕ) → (length ds ≡ 0 → ⊥) → headed h ds k ≡ h ++ declarations ds (line "END_VAR" k)
 headed_some h [] k e = absurd (e refl)

@@ -1,35 +1,27 @@
 -- The parts of a print, as the code has them: by a node of the pool and by a number of the table.
-use Rattle.std.specs.Prelude.{◌≡◌, Bool, true, false, cond, ◌&&◌, List, [], ◌∷◌, ◌++◌, ℕ, ◌+◌, ◌-◌, ◌/◌, ◌%◌, ◌≤◌, ◌<◌, eqb, ltb, leb, length, get_or}
+use Rattle.std.specs.Prelude.{◌≡◌, Bool, true, false, cond, ◌&&◌, List, [], ◌∷◌, ◌++◌, ℕ, ◌+◌, ◌/◌, ◌≤◌, ◌<◌, ltb, leb, length, get_or}
 use Rattle.paper.specs.declared.Ty.{Ty}
-use Rattle.paper.specs.declared.Ty.TheVariants.{Bool as BOOL}
-use Rattle.paper.specs.declared.Op.{Op}
-use Rattle.paper.specs.declared.Op.TheVariants.{Or}
 use Rattle.paper.specs.declared.Kind.{Kind}
-use Rattle.paper.specs.declared.Kind.TheVariants.{Other}
-use Rattle.paper.specs.Words.{type_name, conversion_name}
+use Rattle.paper.specs.Words.{type_name}
 use Rattle.paper.specs.Source.{Bounds, single, array, Declared}
 use Rattle.paper.specs.Names.{Variable, size_of, same_kind, of_kind}
 use Rattle.paper.specs.Plain.{Stmts, done, assign, choice}
 use Rattle.paper.specs.Printing.{put, line, natural, cell, cell_of_variable, statements, declaration_of, declarations}
 use Rattle.tree.specs.Nodes.{word_of, child_of}
-use Rattle.tree.specs.Trees.{types, operators, kinds, wide}
+use Rattle.tree.specs.Trees.{wide}
 use Rattle.variables.specs.Table.{type_at, section_at, bounds_in, initial_in, node_in, entry_at, entries, listed_in}
 
 -- ---- declarations
 
--- a section by its number
-abbrev pub section_of : ℕ → Kind
-section_of n = get_or kinds n Other
-
 -- the variables of a section among the first n
-abbrev pub of_section : List ℕ → List ℕ → List ℕ → ℕ → ℕ → List Declared
-of_section t p tab s n = of_kind (section_of s) (entries t p tab n)
+abbrev pub of_section : List ℕ → List ℕ → List ℕ → Kind → ℕ → List Declared
+of_section t p tab s n = of_kind s (entries t p tab n)
 
 -- whether the variable v is of a section, and how many of the first n are, whatever their names
-abbrev pub is_of : List ℕ → List ℕ → ℕ → ℕ → Bool
-is_of p tab s v = same_kind (section_of s) (section_at p (node_in p (word_of tab v 1)))
+abbrev pub is_of : List ℕ → List ℕ → Kind → ℕ → Bool
+is_of p tab s v = same_kind s (section_at p (node_in p (word_of tab v 1)))
 
-abbrev pub Counts : List ℕ → List ℕ → ℕ → ℕ → ℕ → Type 0
+abbrev pub Counts : List ℕ → List ℕ → Kind → ℕ → ℕ → Type 0
 Counts p tab s n r = (t : List ℕ) → r ≡ length (of_section t p tab s n)
 
 -- a declaration at a node, without a name
@@ -88,21 +80,6 @@ pub record Entered (p tab : List ℕ) (v : ℕ) (old new : List ℕ) : Type 0 wh
 abbrev pub subscript : Bounds → ℕ → List ℕ → List ℕ
 subscript single o k = k
 subscript (array p lo q hi) o k = put "[" (natural (lo + o) (put "]" k))
-
--- ---- expressions, by the kind w of the node
-
-abbrev pub operator_of : ℕ → Op
-operator_of w = get_or operators (w - 11) Or
-
-abbrev pub converting : List ℕ → ℕ → List ℕ → List ℕ
-converting q i k = conversion_name (get_or types (word_of q i 2 / 8) BOOL) (get_or types (word_of q i 2 % 8) BOOL) ++ put "(" k
-
--- in front of the first operand, and behind the only one
-abbrev pub opening : List ℕ → ℕ → ℕ → List ℕ → List ℕ
-opening q i w k = cond (eqb w 7) (put "(-(" k) (cond (eqb w 8) (put "(NOT " k) (cond (eqb w 10) (converting q i k) (put "(" k)))
-
-abbrev pub closing : ℕ → List ℕ → List ℕ
-closing w k = cond (eqb w 7) (put "))" k) (put ")" k)
 
 -- ---- lists
 

@@ -1,53 +1,38 @@
 // Bytes, digits and names.
-ghost use Rattle.std.specs.Prelude.{◌≡◌, cond, ◌∷◌, ◌++◌, map, ◌<◌, pos, neg_ℤ};
+ghost use Rattle.std.specs.Prelude.{◌≡◌, cond, List, ◌∷◌, ◌++◌, map, ℕ, ◌<◌, pos, neg_ℤ};
 ghost use Rattle.paper.specs.Words.{capital, type_name};
 ghost use Rattle.paper.specs.Printing as P;
 ghost use Rattle.print.specs.Printed.{Printed, PrintedDigits};
 
 use paper::Ty;
 
-// Where a place stops: no buffer is longer.
-const LIMIT: usize = 18446744073709551615;
-
-// One byte. Beyond the buffer it is counted and not written.
+// One byte. Beyond the buffer it is counted and not written; no place is above the greatest number.
 pub fn byte(out: &mut [u8], at: usize, b: u8) -> usize
     ensures { Printed out.old out.new at (λ k. b ∷ k) result }
 {
     if at < out.len() {
         out[at] = b;
     }
-    if at < LIMIT { at + 1 } else { at }
+    at.saturating_add(1)
 }
 
 pub fn put(out: &mut [u8], at: usize, s: &[u8]) -> usize
     ensures { Printed out.old out.new at (λ k. s.now ++ k) result }
 {
-    let n = s.len();
     let mut a = at;
-    let mut i = 0;
-    while i < n {
-        a = byte(out, a, s[i]);
-        i += 1;
+    for b in s {
+        a = byte(out, a, *b);
     }
     a
-}
-
-fn folded(b: u8) -> u8
-    ensures { result ≡ capital b }
-{
-    if 97 <= b && b <= 122 { b - 32 } else { b }
 }
 
 // A name in capitals.
 pub fn capitals(out: &mut [u8], at: usize, s: &[u8]) -> usize
     ensures { Printed out.old out.new at (λ k. map capital s.now ++ k) result }
 {
-    let n = s.len();
     let mut a = at;
-    let mut i = 0;
-    while i < n {
-        a = byte(out, a, folded(s[i]));
-        i += 1;
+    for b in s {
+        a = byte(out, a, b.to_ascii_uppercase());
     }
     a
 }
@@ -57,10 +42,10 @@ fn digits(out: &mut [u8], at: usize, n: u64) -> usize
     ensures { PrintedDigits out.old out.new at n result }
 {
     if n < 10 {
-        return byte(out, at, 48 + n as u8);
+        return byte(out, at, b'0' + n as u8);
     }
     let a = digits(out, at, n / 10);
-    byte(out, a, 48 + (n % 10) as u8)
+    byte(out, a, b'0' + (n % 10) as u8)
 }
 
 pub fn natural(out: &mut [u8], at: usize, n: u64) -> usize
@@ -81,24 +66,34 @@ pub fn whole(out: &mut [u8], at: usize, minus: bool, n: u32) -> usize
     natural(out, at, n as u64)
 }
 
+#[tactic(auto, unfolding(paper::specs::Words::bytes))]
+fn truth_name(b: bool) -> &'static [u8]
+    ensures { (k : List ℕ) → P.truth_value b k ≡ result.now ++ k }
+{
+    if b { b"TRUE" } else { b"FALSE" }
+}
+
 pub fn truth(out: &mut [u8], at: usize, b: bool) -> usize
     ensures { Printed out.old out.new at (P.truth_value b) result }
 {
-    if b {
-        put(out, at, b"TRUE")
-    } else {
-        put(out, at, b"FALSE")
+    put(out, at, truth_name(b))
+}
+
+#[tactic(auto, unfolding(paper::specs::Words::bytes, paper::specs::Words::type_name))]
+fn name_of(t: Ty) -> &'static [u8]
+    ensures { result.now ≡ type_name t }
+{
+    match t {
+        Ty::Bool => b"BOOL",
+        Ty::Int => b"INT",
+        Ty::Uint => b"UINT",
+        Ty::Dint => b"DINT",
+        Ty::Udint => b"UDINT",
     }
 }
 
 pub fn type_name(out: &mut [u8], at: usize, t: Ty) -> usize
     ensures { Printed out.old out.new at (λ k. type_name t ++ k) result }
 {
-    match t {
-        Ty::Bool => put(out, at, b"BOOL"),
-        Ty::Int => put(out, at, b"INT"),
-        Ty::Uint => put(out, at, b"UINT"),
-        Ty::Dint => put(out, at, b"DINT"),
-        Ty::Udint => put(out, at, b"UDINT"),
-    }
+    put(out, at, name_of(t))
 }

@@ -1,58 +1,61 @@
 // The sections, in printed order.
-ghost use Rattle.std.specs.Prelude.{◌≡◌, cond, [], ◌∷◌, ◌++◌, ◌+◌, ◌*◌, ◌/◌, ◌≤◌, ◌<◌, length};
+ghost use Rattle.std.specs.Prelude.{◌≡◌, [], ◌∷◌, ◌++◌, ◌/◌, ◌<◌, length};
 ghost use Rattle.paper.specs.Words.{type_name};
 ghost use Rattle.paper.specs.Names.{of_kind};
+ghost use Rattle.paper.specs.Source.{nothing};
 ghost use Rattle.paper.specs.Printing as P;
 ghost use Rattle.tree.specs.Trees.{initial_at, whole_at};
 ghost use Rattle.variables.specs.Table.{name_in, entry_at, entries};
 ghost use Rattle.print.specs.Printed.{Printed};
-ghost use Rattle.print.specs.Parts.{section_of, of_section, is_of, Counts, typing, array_of, headed};
+ghost use Rattle.print.specs.Parts.{of_section, is_of, Counts, typing, array_of, headed};
 
 use crate::bytes::{capitals, natural, put, truth, type_name, whole};
-use paper::Ty;
-use tree::{child, kind, wide_at, word};
-use value::same_type;
-use variables::{bounds_of, declaration_of, is_array, key_of, section_of, type_of};
+use paper::{Kind, Ty};
+use tree::kinds::Initial;
+use tree::node::Node;
+use tree::word;
+use variables::declared::{bounds_of, is_array, section_of, type_of};
+use variables::key_of;
+use variables::listed::Variables;
 use words::name_of;
 
 // The number of a node.
-pub fn number(pool: &[u16], i: usize, out: &mut [u8], at: usize) -> usize
-    requires { 4 * i + 4 ≤ length pool.now }
-    ensures { Printed out.old out.new at (P.whole (whole_at pool.now i)) result }
+pub fn number(n: Node, out: &mut [u8], at: usize) -> usize
+    ensures { Printed out.old out.new at (P.whole (whole_at n.entry.pool.now n.entry.at)) result }
 {
-    whole(out, at, word(pool, i, 0) == 2, wide_at(pool, i))
+    whole(out, at, n.word(0) == 2, n.wide())
+}
+
+// What stands for no declared value.
+fn zero(out: &mut [u8], at: usize, t: Ty) -> usize
+    ensures { Printed out.old out.new at (P.initial_of t nothing) result }
+{
+    if t == Ty::Bool {
+        truth(out, at, false)
+    } else {
+        put(out, at, b"0")
+    }
 }
 
 // The declared value, or what stands for none.
-fn initial(pool: &[u16], t: Ty, i: usize, out: &mut [u8], at: usize) -> usize
-    requires { 4 * i + 4 ≤ length pool.now }
-    ensures { Printed out.old out.new at (P.initial_of t (initial_at pool.now i)) result }
+fn initial(n: Node, t: Ty, out: &mut [u8], at: usize) -> usize
+    ensures { Printed out.old out.new at (P.initial_of t (initial_at n.entry.pool.now n.entry.at)) result }
 {
-    let k = kind(pool, i);
-    if k == 35 {
-        return number(pool, child(pool, i, 1), out, at);
+    match n.initial() {
+        Initial::Value => number(n.child(1), out, at),
+        Initial::Flag(b) => truth(out, at, b),
+        Initial::Nothing => zero(out, at, t),
     }
-    if k == 36 {
-        return truth(out, at, false);
-    }
-    if k == 37 {
-        return truth(out, at, true);
-    }
-    if same_type(t, Ty::Bool) {
-        return truth(out, at, false);
-    }
-    put(out, at, b"0")
 }
 
 // An array by the node of its bounds.
-fn array(pool: &[u16], b: usize, t: Ty, out: &mut [u8], at: usize) -> usize
-    requires { 4 * b + 4 ≤ length pool.now }
-    ensures { Printed out.old out.new at (array_of pool.now b t) result }
+fn array(bounds: Node, t: Ty, out: &mut [u8], at: usize) -> usize
+    ensures { Printed out.old out.new at (array_of bounds.entry.pool.now bounds.entry.at t) result }
 {
     let x = put(out, at, b"ARRAY[");
-    let y = natural(out, x, wide_at(pool, child(pool, b, 1)) as u64);
+    let y = natural(out, x, bounds.child(1).wide() as u64);
     let z = put(out, y, b"..");
-    let w = natural(out, z, wide_at(pool, child(pool, b, 2)) as u64);
+    let w = natural(out, z, bounds.child(2).wide() as u64);
     let v = put(out, w, b"] OF ");
     let u = type_name(out, v, t);
     put(out, u, b";\n")
@@ -65,61 +68,47 @@ fn unvalued(t: Ty, out: &mut [u8], at: usize) -> usize
     put(out, a, b";\n")
 }
 
-fn valued(pool: &[u16], i: usize, t: Ty, out: &mut [u8], at: usize) -> usize
-    requires { 4 * i + 4 ≤ length pool.now }
-    ensures { Printed out.old out.new at (λ k. type_name t ++ P.put " := " (P.initial_of t (initial_at pool.now i) (P.line ";" k))) result }
+fn valued(n: Node, t: Ty, out: &mut [u8], at: usize) -> usize
+    ensures { Printed out.old out.new at (λ k. type_name t ++ P.put " := " (P.initial_of t (initial_at n.entry.pool.now n.entry.at) (P.line ";" k))) result }
 {
     let a = type_name(out, at, t);
     let b = put(out, a, b" := ");
-    let c = initial(pool, t, i, out, b);
+    let c = initial(n, t, out, b);
     put(out, c, b";\n")
 }
 
 // The type of a declaration, and its value where it may have one. An array of outputs has no print.
-fn typed(pool: &[u16], j: usize, out: &mut [u8], at: usize) -> usize
-    requires { 4 * j + 4 ≤ length pool.now }
-    ensures { Printed out.old out.new at (typing pool.now j) result }
+fn typed(n: Node, out: &mut [u8], at: usize) -> usize
+    ensures { Printed out.old out.new at (typing n.entry.pool.now n.entry.at) result }
 {
-    let s = section_of(pool, j);
-    let t = type_of(pool, j);
-    if s == 0 {
-        return unvalued(t, out, at);
+    let t = type_of(n);
+    let section = section_of(n);
+    if section == Kind::Input {
+        unvalued(t, out, at)
+    } else if !is_array(n) {
+        valued(n.child(2).child(2), t, out, at)
+    } else if section == Kind::Output {
+        at
+    } else {
+        array(bounds_of(n), t, out, at)
     }
-    if is_array(pool, j) {
-        if s == 1 {
-            return at;
-        }
-        return array(pool, bounds_of(pool, j), t, out, at);
-    }
-    valued(pool, child(pool, child(pool, j, 2), 2), t, out, at)
 }
 
 // Whether the variable `v` is of a section.
-fn is_of(pool: &[u16], table: &[u16], section: u16, v: usize) -> bool
-    requires { (4 ≤ length pool.now) × (section < 3) × (v < length table.now / 4) }
-    ensures { result ≡ is_of pool.now table.now section v }
+fn is_of(vars: Variables, section: Kind, v: usize) -> bool
+    requires { v < length vars.table.now / 4 }
+    ensures { result ≡ is_of vars.entry.pool.now vars.entry.table.now section v }
 {
-    section == section_of(pool, declaration_of(pool, table, v))
-}
-
-fn one(pool: &[u16], table: &[u16], section: u16, v: usize) -> usize
-    requires { (4 ≤ length pool.now) × (section < 3) × (v < length table.now / 4) }
-    ensures { (result ≡ cond (is_of pool.now table.now section v) 1 0) × (result ≤ 1) }
-{
-    if is_of(pool, table, section, v) { 1 } else { 0 }
+    section == section_of(vars.declaration(v))
 }
 
 // How many variables are of a section.
-fn count(pool: &[u16], table: &[u16], section: u16) -> usize
-    requires { (4 ≤ length pool.now) × (section < 3) }
-    ensures { Counts pool.now table.now section (length table.now / 4) result }
+fn count(vars: Variables, section: Kind) -> usize
+    ensures { Counts vars.entry.pool.now vars.entry.table.now section (length vars.entry.table.now / 4) result }
 {
-    let n = table.len() / 4;
-    let mut k: usize = 0;
-    let mut v = 0;
-    while v < n {
-        k += one(pool, table, section, v);
-        v += 1;
+    let mut k = 0;
+    for v in 0..vars.count() {
+        k += usize::from(is_of(vars, section, v));
     }
     k
 }
@@ -137,74 +126,45 @@ pub fn named(text: &[u8], table: &[u16], v: usize, out: &mut [u8], at: usize) ->
 }
 
 // The variable `v`, if it is of the section.
-fn variable(
-    text: &[u8],
-    pool: &[u16],
-    table: &[u16],
-    section: u16,
-    v: usize,
-    out: &mut [u8],
-    at: usize,
-) -> usize
-    requires { (4 ≤ length pool.now) × (section < 3) × (v < length table.now / 4) }
-    ensures { Printed out.old out.new at (P.declarations (of_kind (section_of section) (entry_at text.now pool.now table.now v ∷ []))) result }
+fn variable(vars: Variables, section: Kind, v: usize, out: &mut [u8], at: usize) -> usize
+    requires { v < length vars.table.now / 4 }
+    ensures { Printed out.old out.new at (P.declarations (of_kind section (entry_at vars.entry.text.now vars.entry.pool.now vars.entry.table.now v ∷ []))) result }
 {
-    if is_of(pool, table, section, v) {
-        let a = named(text, table, v, out, at);
+    if is_of(vars, section, v) {
+        let a = named(vars.text, vars.table, v, out, at);
         let b = put(out, a, b" : ");
-        return typed(pool, declaration_of(pool, table, v), out, b);
+        return typed(vars.declaration(v), out, b);
     }
     at
 }
 
 // The variables of a section.
-fn listed(
-    text: &[u8],
-    pool: &[u16],
-    table: &[u16],
-    section: u16,
-    out: &mut [u8],
-    at: usize,
-) -> usize
-    requires { (4 ≤ length pool.now) × (section < 3) }
-    ensures { Printed out.old out.new at (P.declarations (of_section text.now pool.now table.now section (length table.now / 4))) result }
+fn listed(vars: Variables, section: Kind, out: &mut [u8], at: usize) -> usize
+    ensures { Printed out.old out.new at (P.declarations (of_section vars.entry.text.now vars.entry.pool.now vars.entry.table.now section (length vars.entry.table.now / 4))) result }
 {
-    let n = table.len() / 4;
     let mut a = at;
-    let mut v = 0;
-    while v < n {
-        a = variable(text, pool, table, section, v, out, a);
-        v += 1;
+    for v in 0..vars.count() {
+        a = variable(vars, section, v, out, a);
     }
     a
 }
 
 // A section with its first line; one without variables has no print.
-fn headed(
-    text: &[u8],
-    pool: &[u16],
-    table: &[u16],
-    section: u16,
-    head: &[u8],
-    out: &mut [u8],
-    at: usize,
-) -> usize
-    requires { (4 ≤ length pool.now) × (section < 3) }
-    ensures { Printed out.old out.new at (headed head.now (of_section text.now pool.now table.now section (length table.now / 4))) result }
+fn headed(vars: Variables, section: Kind, head: &[u8], out: &mut [u8], at: usize) -> usize
+    ensures { Printed out.old out.new at (headed head.now (of_section vars.entry.text.now vars.entry.pool.now vars.entry.table.now section (length vars.entry.table.now / 4))) result }
 {
-    if count(pool, table, section) == 0 {
+    if count(vars, section) == 0 {
         return at;
     }
     let a = put(out, at, head);
-    let b = listed(text, pool, table, section, out, a);
+    let b = listed(vars, section, out, a);
     put(out, b, b"END_VAR\n")
 }
 
-pub fn sections(text: &[u8], pool: &[u16], table: &[u16], out: &mut [u8], at: usize) -> usize
-    requires { 4 ≤ length pool.now }
-    ensures { Printed out.old out.new at (P.sections (entries text.now pool.now table.now (length table.now / 4))) result }
+pub fn sections(vars: Variables, out: &mut [u8], at: usize) -> usize
+    ensures { Printed out.old out.new at (P.sections (entries vars.entry.text.now vars.entry.pool.now vars.entry.table.now (length vars.entry.table.now / 4))) result }
 {
-    let a = headed(text, pool, table, 0, b"VAR_INPUT\n", out, at);
-    let b = headed(text, pool, table, 1, b"VAR_OUTPUT\n", out, a);
-    headed(text, pool, table, 2, b"VAR\n", out, b)
+    let a = headed(vars, Kind::Input, b"VAR_INPUT\n", out, at);
+    let b = headed(vars, Kind::Output, b"VAR_OUTPUT\n", out, a);
+    headed(vars, Kind::Other, b"VAR\n", out, b)
 }

@@ -1,71 +1,70 @@
 // Which variable has a cell. An index of the first 64 cells, as many as a program may have, is made once for a print.
-ghost use Rattle.std.specs.Prelude.{◌≡◌, ◌/◌, ◌≤◌, ◌<◌, length};
+ghost use Rattle.std.specs.Prelude.{◌≡◌, ◌/◌, ◌<◌, length};
 ghost use Rattle.print.specs.Parts.{Holds, holds, Entered, Indexed};
 
-use tree::word;
-use variables::{declaration_of, size_of};
+use variables::declared::size_of;
+use variables::listed::Variables;
 
 // Whether the variable `v` has the cell `c`.
-fn has(pool: &[u16], table: &[u16], v: usize, c: usize) -> bool
-    requires { (4 ≤ length pool.now) × (v < length table.now / 4) }
-    ensures { result ≡ holds pool.now table.now c v }
+fn has(vars: Variables, v: usize, c: usize) -> bool
+    requires { v < length vars.table.now / 4 }
+    ensures { result ≡ holds vars.entry.pool.now vars.entry.table.now c v }
 {
-    let first = word(table, v, 2) as usize;
-    let n = size_of(pool, declaration_of(pool, table, v));
+    let first = vars.first_cell(v) as usize;
+    let n = size_of(vars.declaration(v));
     first <= c && c - first < n
 }
 
 // The first variable that has the cell `c`, or how many variables there are, for any cell.
-fn walked(pool: &[u16], table: &[u16], c: usize) -> usize
-    requires { 4 ≤ length pool.now }
-    ensures { Holds pool.now table.now c result }
+fn walked(vars: Variables, c: usize) -> usize
+    ensures { Holds vars.entry.pool.now vars.entry.table.now c result }
 {
-    let n = table.len() / 4;
-    let mut v = 0;
-    while v < n {
-        if has(pool, table, v, c) {
+    for v in 0..vars.count() {
+        if has(vars, v, c) {
             return v;
         }
-        v += 1;
     }
-    n
+    vars.count()
 }
 
 // The cells of the variable `v` get its number, as far as the index goes.
-fn enter(pool: &[u16], table: &[u16], v: usize, index: &mut [usize; 64])
-    requires { (4 ≤ length pool.now) × (v < length table.now / 4) × (length index.old ≡ 64) }
-    ensures { Entered pool.now table.now v index.old index.new }
+fn enter(vars: Variables, v: usize, index: &mut [usize; 64])
+    requires { (v < length vars.table.now / 4) × (length index.old ≡ 64) }
+    ensures { Entered vars.entry.pool.now vars.entry.table.now v index.old index.new }
 {
-    let first = word(table, v, 2) as usize;
-    let n = size_of(pool, declaration_of(pool, table, v));
-    let mut c = first;
-    while c < 64 && c - first < n {
+    let first = vars.first_cell(v) as usize;
+    let n = size_of(vars.declaration(v));
+    for c in first..first.saturating_add(n).min(64) {
         index[c] = v;
-        c += 1;
     }
 }
 
 // The first variable of each cell, or how many variables there are. Entered from the last to the first, so that the first wins.
-pub fn indexed(pool: &[u16], table: &[u16]) -> [usize; 64]
-    requires { 4 ≤ length pool.now }
-    ensures { Indexed pool.now table.now result }
+pub fn indexed(vars: Variables) -> [usize; 64]
+    ensures { Indexed vars.entry.pool.now vars.entry.table.now result }
 {
-    let mut v = table.len() / 4;
-    let mut index = [v; 64];
-    while 0 < v {
-        v -= 1;
-        enter(pool, table, v, &mut index);
+    let n = vars.count();
+    let mut index = [n; 64];
+    for v in (0..n).rev() {
+        enter(vars, v, &mut index);
     }
     index
 }
 
+// What names cells: the variables, and the index of their first cells.
+#[derive(Clone, Copy)]
+pub struct Names<'a> {
+    pub variables: Variables<'a>,
+    pub index: &'a [usize; 64],
+    pub ghost entered: { Indexed variables.pool.now variables.table.now index.now },
+}
+
 // The first variable that has the cell `c`, by the index; for a cell beyond it the variables are walked.
-pub fn variable_of(pool: &[u16], table: &[u16], index: &[usize; 64], c: usize) -> usize
-    requires { (4 ≤ length pool.now) × (Indexed pool.now table.now index.now) }
-    ensures { Holds pool.now table.now c result }
+pub fn variable_of(names: Names, c: usize) -> usize
+    ensures { Holds names.entry.variables.pool.now names.entry.variables.table.now c result }
 {
     if c < 64 {
-        return index[c];
+        return names.index[c];
     }
-    walked(pool, table, c)
+    walked(names.variables, c)
 }

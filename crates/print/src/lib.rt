@@ -13,6 +13,9 @@ ghost use Rattle.plain.specs.Flat.{list_at};
 ghost use Rattle.variables.specs.Table.{entries, listed_in};
 ghost use Rattle.print.specs.Printed.{Printed};
 
+use index::Names;
+use tree::node::node_at;
+use variables::listed::listed;
 use words::name_of;
 
 // The program whose name stands at the place `name` of the text, from the buffer's first byte on: the number of its bytes.
@@ -31,8 +34,13 @@ pub fn print(
     let a = bytes::put(out, 0, b"PROGRAM ");
     let b = bytes::capitals(out, a, name_of(text, name));
     let c = bytes::put(out, b, b"\n");
-    let d = declared::sections(text, pool, table, out, c);
-    let index = index::indexed(pool, table);
-    let e = body::list(text, pool, table, &index, plain, root, out, d);
+    let variables = listed(text, pool, table);
+    let d = declared::sections(variables, out, c);
+    let index = index::indexed(variables);
+    let names = Names {
+        variables,
+        index: &index,
+    };
+    let e = body::list(names, node_at(plain, root), out, d);
     bytes::put(out, e, b"END_PROGRAM\n")
 }

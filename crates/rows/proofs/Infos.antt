@@ -9,13 +9,13 @@ use native.Mathlib.Numerals.{add-one}
 use lib.Dec.{eqb}
 use lib.ListN.{length, get_or, take, drop, set, length-map, get_or-map, drop_of_length-le}
 use lib.Seq.{drop-cons, take_all, take-suc-set, drop-set-lt, append_snoc}
+use Rattle.std.specs.List.{list_all}
 use Rattle.paper.specs.Names.{Info}
 use Rattle.paper.specs.Plain.{State}
 use Rattle.paper.specs.Tables.{Line, is_cell, types, infos_of, next_of, next_state, cells_keep}
 use Rattle.paper.specs.Types.{same_ty}
 use Rattle.paper.specs.declared.Ty.{Ty}
-use Rattle.rows.specs.Forms.{type_in}
-use Rattle.rows.specs.Lent.{info_in, every, is_type, cells_known, cell_passes, IsNext, Answers}
+use Rattle.rows.specs.Lent.{type_in, info_in, is_type, cells_known, cell_passes, IsNext, Answers}
 use Rattle.rows.proofs.There.{there, missing, found, answered, certain, no_answer, joined}
 
 -- ---- one cell's type
@@ -31,7 +31,7 @@ module _ (xs : List ℕ) (t : Ty) (k : ℕ) where
 -- ---- the cells' types
 
 pub infos : (xs : List ℕ) → infos_of xs ≡ cond (cells_known xs) (some (map info_in xs)) none
-unfolding infos_of every
+unfolding infos_of
 infos [] = refl
 infos (x ∷ xs) =
     rw (found types (x % 8) (type_in 0), infos xs)
@@ -40,8 +40,8 @@ infos (x ∷ xs) =
 pub infos_answer : (xs : List ℕ) (b : Bool) → cells_known xs ≡ b → Answers (infos_of xs) b
 infos_answer xs b e = answered b (map info_in xs) (infos xs ∙ rw e)
 
-pub known_back : (xs : List ℕ) (b : Bool) {c : Bool} → b ≡ c → Answers (infos_of xs) b → cells_known xs ≡ c
-known_back xs b e a = go (cells_known xs) b (infos xs) a ∙ e
+pub known_back : (xs : List ℕ) (b : Bool) → Answers (infos_of xs) b → cells_known xs ≡ b
+known_back xs b a = go (cells_known xs) b (infos xs) a
   where
     go : (k b : Bool) → infos_of xs ≡ cond k (some (map info_in xs)) none → Answers (infos_of xs) b → k ≡ b
     go true true p a = refl
@@ -55,8 +55,8 @@ infos_are xs is e = sym (certain (cells_known xs) (infos xs) e)
 
 -- ---- the next rows
 
-pub cells_every : (ls : List Line) (xs : List ℕ) → every (cell_passes ls) xs ≡ cells_keep ls (map info_in xs) xs
-unfolding every cells_keep
+pub cells_every : (ls : List Line) (xs : List ℕ) → list_all (cell_passes ls) xs ≡ cells_keep ls (map info_in xs) xs
+unfolding cells_keep
 cells_every ls [] = refl
 cells_every ls (x ∷ xs) = rw (cells_every ls xs)
 

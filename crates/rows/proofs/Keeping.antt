@@ -1,22 +1,15 @@
--- Rule 11 for the rows one after the other, and for one row by its form.
+-- Rule 11 for the rows one after the other.
 use mathlib.Core.Bool.{Bool, true, false, ◌&&◌, and-true, and-false, and_assoc}
 use mathlib.Core.List.{List, [], ◌∷◌, ◌++◌, append-nil, append_assoc}
 use mathlib.Core.Path.{◌≡◌, refl, sym, ap, ◌∙◌}
-use Prim.Native.Nat.{ℕ, zero, suc, ◌+◌, ◌-◌, ◌/◌, ◌%◌, ◌<◌, ◌≤◌}
+use Prim.Native.Nat.{ℕ, zero, suc, ◌+◌, ◌-◌, ◌<◌}
 use native.Mathlib.Omega.{arith}
 use native.Mathlib.Numerals.{add-one}
-use borrow.Author.Tests.{ltb-true, ltb-false, lt-ltb, le-ltb}
-use lib.Dec.{ltb}
-use lib.ListN.{drop, get_or-replicate, get_or-map, get_or-eq_default}
-use Rattle.paper.specs.declared.Ty.{Ty}
+use lib.ListN.{drop}
 use Rattle.paper.specs.Names.{Info}
 use Rattle.paper.specs.Tables.{Line, lines_in, line_keeps, lines_keep}
-use Rattle.rows.specs.declared.forms.Form.{Form}
-use Rattle.rows.specs.declared.forms.Form.TheVariants.{Number, Read, Minus, Complement, Select, Binary, Conversion, Unknown}
-use Rattle.rows.specs.Forms.{table, form_in, type_in, said}
-use Rattle.rows.specs.Lent.{head_at, word_at, line_at, is_known, rows_known, row_keeps, rows_keep}
+use Rattle.rows.specs.Lent.{head_at, line_at, is_known, rows_known, row_keeps, rows_keep}
 use Rattle.rows.proofs.Lines.{head_next, lines_snoc}
-use Rattle.rows.proofs.Said.{line_by}
 
 -- ---- one row more
 
@@ -65,35 +58,3 @@ module _ (is : List Info) (rs : List ℕ) where
   pub keep_stop : (i n : ℕ) → i < n → row_keeps is rs i ≡ false → rows_keep is rs n ≡ false
   keep_stop i zero h e = absurd (omega arith)
   keep_stop i (suc n) h e = stopped i (n - i) n (omega arith) e
-
--- ---- one row by its form
-
-abbrev pub is_form : Form → Bool
-is_form Number = true
-is_form Read = true
-is_form Minus = true
-is_form Complement = true
-is_form Select = true
-is_form (Binary o) = true
-is_form (Conversion u) = true
-is_form Unknown = false
-
-form_known : (k : ℕ) → ltb k 23 ≡ is_form (form_in k)
-unfolding table
-form_known k = go (ltb k 23) refl
-  where
-    go : (b : Bool) → ltb k 23 ≡ b → b ≡ is_form (form_in k)
-    go true e = sym (get_or-replicate 23 k true false (ltb-true k 23 e)) ∙ get_or-map is_form table k Unknown
-    go false e = sym (ap is_form (get_or-eq_default table Unknown {n = k} (ltb-false k 23 e)))
-
-module _ (is : List Info) (rs : List ℕ) (i : ℕ) where
-  pub unknown_type : 4 < head_at rs i % 8 → false ≡ row_keeps is rs i
-  unknown_type h = rw (le-ltb (head_at rs i % 8) 5 h, and-false (ltb (head_at rs i / 8) 23))
-
-  pub keeps_by : {f : Form} {t : Ty}
-      → f ≡ form_in (head_at rs i / 8)
-      → t ≡ type_in (head_at rs i % 8)
-      → head_at rs i % 8 ≤ 4
-      → row_keeps is rs i ≡ is_form f && line_keeps is (lines_in i rs) (said f t (word_at rs i 1) (word_at rs i 2) (word_at rs i 3))
-  keeps_by p q h =
-      rw (line_by rs i p q, lt-ltb (head_at rs i % 8) 5 (omega arith), and-true (ltb (head_at rs i / 8) 23), form_known (head_at rs i / 8), p)

@@ -12,7 +12,10 @@ use Rattle.paper.specs.Plain.{State}
 use Rattle.paper.specs.declared.Ty.{Ty}
 use Rattle.paper.specs.Types.{same_ty}
 use Rattle.paper.specs.Tables.{Line, row, lines_in, line_value, values, line_type, is_earlier, is_non_zero, is_divisor}
+use Rattle.rows.specs.declared.line.Line as Code
+use Rattle.rows.specs.declared.line.Line.TheVariants.{Number, Read, Minus, Complement, Select, Binary, Conversion}
 use Rattle.rows.specs.Lent.{head_at, word_at, line_at}
+use Rattle.rows.specs.Said.{said}
 
 -- ---- one row further
 
@@ -60,6 +63,16 @@ module _ (n : ℕ) (rs : List ℕ) where
 
   pub divisor_missing : (b : ℕ) → n ≤ b → is_divisor (lines_in n rs) (row b) ≡ false
   divisor_missing b h = rw (line_missing n rs b h, is_divisor)
+
+-- any line but a number is no divisor
+pub other_divisor : (l : Code.Line) → ((t : Ty) (z : ℕ) → l ≡ Number t z → ⊥) → false ≡ is_non_zero (said l)
+other_divisor (Number t z) n = absurd (n t z refl)
+other_divisor (Read t c) n = refl
+other_divisor (Minus t a) n = refl
+other_divisor (Complement t a) n = refl
+other_divisor (Select t c a b) n = refl
+other_divisor (Binary o t a b) n = refl
+other_divisor (Conversion t u a) n = refl
 
 -- ---- values
 

@@ -1,11 +1,10 @@
 -- Rule 11 for the whole table: what `table_in` answers, by the tests that the code makes.
-use mathlib.Core.Bool.{Bool, true, false, cond, ◌&&◌, and-false}
+use mathlib.Core.Bool.{Bool, true, false, cond, ◌&&◌}
 use mathlib.Core.List.{List, [], ◌∷◌, map}
 use mathlib.Core.Option.{Option, none, some}
 use mathlib.Core.Path.{◌≡◌, refl, ◌∙◌}
-use Prim.Native.Nat.{ℕ, zero, suc, ◌*◌, ◌/◌, ◌%◌, ◌<◌, ◌≤◌}
+use Prim.Native.Nat.{ℕ, zero, suc, ◌*◌, ◌/◌, ◌%◌, ◌≤◌}
 use native.Mathlib.Omega.{arith}
-use borrow.Author.Tests.{le-leb, lt-leb}
 use lib.Dec.{ltb, leb}
 use lib.ListN.{length, get_or, take}
 use lib.Seq.{take-length}
@@ -13,8 +12,7 @@ use Rattle.paper.specs.Meaning.{◌>>=◌}
 use Rattle.paper.specs.Names.{Info}
 use Rattle.paper.specs.Tables as Tables
 use Rattle.paper.specs.Tables.{Table, forms, number, line_in, line_of, lines_of, lines_in, lines_keep, cells_keep, infos_of, next_of, table_in}
-use Rattle.rows.specs.Forms.{type_in}
-use Rattle.rows.specs.Lent.{is_type, is_known, rows_known, rows_keep, info_in, cells_known, lent, Answers}
+use Rattle.rows.specs.Lent.{type_in, is_type, is_known, rows_known, rows_keep, info_in, cells_known, lent, Answers}
 use Rattle.rows.proofs.Infos.{infos}
 use Rattle.rows.proofs.There.{found, answered, both, then, joined}
 
@@ -46,10 +44,10 @@ lined rs n xs is =
     cond (lines_keep is [] ls && cells_keep ls is xs) (some (record { cells = is; rows = ls; next = map next_of xs })) none
 
 module _ (rs cs : List ℕ) (n : ℕ) where
-  abbrev rule : Bool
+  abbrev pub rule : Bool
   rule = rows_keep (map info_in cs) rs n && cells_keep (lines_in n rs) (map info_in cs) cs
 
-  abbrev said : Table
+  abbrev pub said : Table
   said = record { cells = map info_in cs; rows = lines_in n rs; next = map next_of cs }
 
   ruled : 4 * n ≤ length rs → lined rs n cs (map info_in cs) ≡ cond rule (some said) none
@@ -79,20 +77,8 @@ module _ (rs cs : List ℕ) (n : ℕ) where
       go true xs e = rw e (known h)
       go false xs e = refl
 
-  module _ (room : 4 * n ≤ length rs) where
-    verdict : (b : Bool)
-        → ((leb (length cs) 64 && leb n 3064) && (cells_known cs && rule)) ≡ b
-        → Answers (table_in (lent rs cs n)) b
-    verdict b e = answered b said (tested room ∙ rw e)
-
-    pub many_cells : 64 < length cs → table_in (lent rs cs n) ≡ none
-    many_cells h = verdict false (rw (lt-leb (length cs) 64 h))
-
-    pub many_rows : 3064 < n → table_in (lent rs cs n) ≡ none
-    many_rows h = verdict false (rw (lt-leb n 3064 h, and-false (leb (length cs) 64)))
-
-    pub unknown_cells : cells_known cs ≡ false → table_in (lent rs cs n) ≡ none
-    unknown_cells e = verdict false (rw e (and-false (leb (length cs) 64 && leb n 3064)))
-
-    pub decided : length cs ≤ 64 → n ≤ 3064 → cells_known cs ≡ true → Answers (table_in (lent rs cs n)) rule
-    decided h k e = verdict rule (rw (le-leb (length cs) 64 h, le-leb n 3064 k, e))
+  pub verdict : 4 * n ≤ length rs
+      → (b : Bool)
+      → ((leb (length cs) 64 && leb n 3064) && (cells_known cs && rule)) ≡ b
+      → Answers (table_in (lent rs cs n)) b
+  verdict room b e = answered b said (tested room ∙ rw e)

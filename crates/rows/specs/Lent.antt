@@ -1,9 +1,11 @@
 -- A lent table read at its places, whatever it holds, and what rule 11 says of it there.
-use Rattle.std.specs.Prelude.{Bool, true, false, ◌&&◌, List, [], ◌∷◌, map, ◌≡◌, ℕ, zero, suc, ◌+◌, ◌*◌, ◌/◌, ◌%◌, ltb, eqb, length, get_or, drop}
+use Rattle.std.specs.Prelude.{Bool, true, false, ◌&&◌, List, [], map, ◌≡◌, ℕ, zero, suc, ◌+◌, ◌*◌, ◌/◌, ◌%◌, ltb, eqb, length, get_or, drop}
+use Rattle.std.specs.List.{list_all}
 use Rattle.std.proofs.Math.Option.{Option, none, some}
+use Rattle.paper.specs.declared.Ty.{Ty}
+use Rattle.paper.specs.declared.Ty.TheVariants.{Bool as BOOL}
 use Rattle.paper.specs.Names.{Info}
-use Rattle.paper.specs.Tables.{Line, Lent, line_in, lines_in, line_keeps, lines_keep, infos_of, next_of, next_state, cell_keeps}
-use Rattle.rows.specs.Forms.{type_in}
+use Rattle.paper.specs.Tables.{Line, Lent, types, line_in, lines_in, line_keeps, lines_keep, infos_of, next_of, next_state, cell_keeps}
 
 -- ---- rows
 
@@ -40,16 +42,14 @@ rows_keep is rs n = rows_known n rs && lines_keep is [] (lines_in n rs)
 -- ---- cells
 
 -- an unknown type counts as BOOL
+abbrev pub type_in : ℕ → Ty
+type_in n = get_or types n BOOL
+
 abbrev pub info_in : ℕ → Info
 info_in x = record { ty = type_in (x % 8); is_input = eqb (x / 8 % 2) 1 }
 
--- whether every number of a list passes a test
-unfoldable pub every : (ℕ → Bool) → List ℕ → Bool
-every p [] = true
-every p (x ∷ xs) = p x && every p xs
-
 abbrev pub cells_known : List ℕ → Bool
-cells_known xs = every is_type xs
+cells_known xs = list_all is_type xs
 
 -- rule 11 for a cell over the rows `ls`
 abbrev pub cell_passes : List Line → ℕ → Bool

@@ -1,3 +1,3 @@
-pub mod Forms
+pub mod Said
 pub mod Lent
 pub mod Sorts

@@ -8,34 +8,30 @@ ghost use Rattle.rows.specs.Lent.{IsNext, lent, Answers};
 use crate::rule::{cells_keep, rows_keep};
 use crate::steps::{next_value, row_value};
 
-mod forms;
+mod line;
 mod operators;
 mod rule;
 mod steps;
 
 // Works out the first n rows in order.
+#[tactic(auto, using(crate::proofs::Lines::values_none, crate::proofs::Lines::values_turn))]
 pub fn run_rows(rows: &[u32], n: usize, state: &[u32], vals: &mut [u32])
     requires { (4 * n ≤ length rows.now) × (n ≤ length vals.old) }
     ensures { (take n vals.new ≡ values state.now [] (lines_in n rows.now)) × (length vals.new ≡ length vals.old) }
 {
-    let mut i = 0;
-    while i < n {
-        let v = row_value(rows, i, state, &vals[..i]);
-        vals[i] = v;
-        i += 1;
+    for i in 0..n {
+        vals[i] = row_value(rows, i, state, &vals[..i]);
     }
 }
 
 // Gives each cell the value of its next row; an input keeps its reading.
+#[tactic(auto, using(crate::proofs::Infos::nexts_turn, crate::proofs::Infos::nexts_done))]
 pub fn next_state(cells: &[u32], vals: &[u32], state: &mut [u32])
     requires { length cells.now ≡ length state.old }
     ensures { IsNext cells.now vals.now state.old state.new }
 {
-    let mut i = 0;
-    while i < cells.len() {
-        let v = next_value(cells[i], vals, state[i]);
-        state[i] = v;
-        i += 1;
+    for (i, v) in state.iter_mut().enumerate() {
+        *v = next_value(cells[i], vals, *v);
     }
 }
 
@@ -43,29 +39,18 @@ pub fn next_state(cells: &[u32], vals: &[u32], state: &mut [u32])
 pub fn cells_known(cells: &[u32]) -> bool
     ensures { Answers (infos_of cells.now) result }
 {
-    let mut i = 0;
-    while i < cells.len() {
-        if 4 < cells[i] % 8 {
-            return false;
-        }
-        i += 1;
-    }
-    true
+    cells.iter().all(|x| x % 8 < 5)
 }
 
 // Whether a table keeps rule 11.
+#[tactic(auto, using(crate::proofs::Infos::known_back, crate::proofs::Tested::verdict))]
 pub fn table_keeps(rows: &[u32], cells: &[u32], n: usize) -> bool
     requires { 4 * n ≤ length rows.now }
     ensures { Answers (table_in (lent rows.now cells.now n)) result }
 {
-    if 64 < cells.len() {
-        return false;
-    }
-    if 3064 < n {
-        return false;
-    }
-    if !cells_known(cells) {
-        return false;
-    }
-    rows_keep(rows, n, cells) & cells_keep(rows, n, cells)
+    cells.len() <= 64
+        && n <= 3064
+        && cells_known(cells)
+        && rows_keep(rows, n, cells)
+        && cells_keep(rows, n, cells)
 }

@@ -1,11 +1,10 @@
 // What types and operators allow: residues, the sorts of operators, and the types that they take and give.
 ghost use Rattle.std.specs.Prelude.{◌≡◌, ◌^◌, ltb};
 ghost use Rattle.paper.specs.Types as Types;
-ghost use Rattle.paper.specs.Types.{width, is_integer, sort_of};
+ghost use Rattle.paper.specs.Types.{width, sort_of};
 ghost use Rattle.rows.specs.Sorts.{meant};
 
 use paper::{Op, Ty};
-use value::same_type;
 
 // Whether n is below 2 to the width.
 pub fn is_residue(t: Ty, n: u32) -> bool
@@ -13,22 +12,13 @@ pub fn is_residue(t: Ty, n: u32) -> bool
 {
     match t {
         Ty::Bool => n < 2,
-        Ty::Int => n < 0x1_0000,
-        Ty::Uint => n < 0x1_0000,
-        Ty::Dint => true,
-        Ty::Udint => true,
+        Ty::Int | Ty::Uint => n < 0x1_0000,
+        Ty::Dint | Ty::Udint => true,
     }
 }
 
-// Any type but BOOL.
-pub fn is_integer(t: Ty) -> bool
-    ensures { result ≡ is_integer t }
-{
-    !same_type(t, Ty::Bool)
-}
-
 // The four sorts of operators.
-#[derive(Clone, Copy)]
+#[derive(Clone, Copy, PartialEq, Eq)]
 pub enum Sort {
     Arithmetic,
     Order,
@@ -41,20 +31,10 @@ fn sort_of(o: Op) -> Sort
     ensures { meant result ≡ sort_of o }
 {
     match o {
-        Op::Mul => Sort::Arithmetic,
-        Op::Div => Sort::Arithmetic,
-        Op::Mod => Sort::Arithmetic,
-        Op::Add => Sort::Arithmetic,
-        Op::Sub => Sort::Arithmetic,
-        Op::Lt => Sort::Order,
-        Op::Gt => Sort::Order,
-        Op::Le => Sort::Order,
-        Op::Ge => Sort::Order,
-        Op::Eq => Sort::Equality,
-        Op::Ne => Sort::Equality,
-        Op::And => Sort::Logic,
-        Op::Xor => Sort::Logic,
-        Op::Or => Sort::Logic,
+        Op::Mul | Op::Div | Op::Mod | Op::Add | Op::Sub => Sort::Arithmetic,
+        Op::Lt | Op::Gt | Op::Le | Op::Ge => Sort::Order,
+        Op::Eq | Op::Ne => Sort::Equality,
+        Op::And | Op::Xor | Op::Or => Sort::Logic,
     }
 }
 
@@ -63,10 +43,9 @@ pub fn takes(o: Op, t: Ty) -> bool
     ensures { result ≡ Types.takes (sort_of o) t }
 {
     match sort_of(o) {
-        Sort::Arithmetic => is_integer(t),
-        Sort::Order => is_integer(t),
+        Sort::Arithmetic | Sort::Order => t != Ty::Bool,
         Sort::Equality => true,
-        Sort::Logic => same_type(t, Ty::Bool),
+        Sort::Logic => t == Ty::Bool,
     }
 }
 
@@ -76,9 +55,7 @@ pub fn gives(o: Op, t: Ty) -> Ty
 {
     match sort_of(o) {
         Sort::Arithmetic => t,
-        Sort::Order => Ty::Bool,
-        Sort::Equality => Ty::Bool,
-        Sort::Logic => Ty::Bool,
+        Sort::Order | Sort::Equality | Sort::Logic => Ty::Bool,
     }
 }
 
@@ -86,20 +63,5 @@ pub fn gives(o: Op, t: Ty) -> Ty
 pub fn divides(o: Op) -> bool
     ensures { result ≡ Types.divides o }
 {
-    match o {
-        Op::Mul => false,
-        Op::Div => true,
-        Op::Mod => true,
-        Op::Add => false,
-        Op::Sub => false,
-        Op::Lt => false,
-        Op::Gt => false,
-        Op::Le => false,
-        Op::Ge => false,
-        Op::Eq => false,
-        Op::Ne => false,
-        Op::And => false,
-        Op::Xor => false,
-        Op::Or => false,
-    }
+    matches!(o, Op::Div | Op::Mod)
 }

@@ -1,13 +1,13 @@
 // Rule 11 for one row, for the rows and for the cells. Every part is total: rows and cells may hold anything.
 ghost use Rattle.std.specs.Prelude.{[], map, ◌≡◌, ◌+◌, ◌*◌, ◌≤◌, length};
 ghost use Rattle.paper.specs.Tables.{row, binary, line_keeps, line_type, is_earlier, is_divisor, is_cell, lines_in, cell_keeps, cells_keep};
-ghost use Rattle.rows.specs.Lent.{line_at, row_keeps, rows_keep, info_in};
+ghost use Rattle.rows.specs.Lent.{line_at, is_known, row_keeps, rows_keep, info_in};
 
-use crate::forms::{Form, form_of, type_in};
-use crate::operators::{divides, gives, is_integer, is_residue, takes};
+use crate::line::{Line, line_at};
+use crate::operators::{divides, gives, is_residue, takes};
 use crate::steps::{is_input, next_row};
 use paper::{Op, Ty};
-use value::{is_signed, same_type};
+use value::{is_signed, type_with};
 
 // ---- one row
 
@@ -16,26 +16,29 @@ fn row_type(rows: &[u32], i: usize) -> Ty
     requires { 4 * i + 4 ≤ length rows.now }
     ensures { result ≡ line_type (line_at rows.now i) }
 {
-    let at = 4 * i;
-    let o = rows[at];
-    let t = type_in(o % 8);
-    match form_of(o / 8) {
-        Form::Binary(op) => gives(op, t),
-        Form::Conversion(u) => u,
-        _ => t,
+    match line_at(rows, i) {
+        Line::Number(t, _)
+        | Line::Read(t, _)
+        | Line::Minus(t, _)
+        | Line::Complement(t, _)
+        | Line::Select(t, _, _, _) => t,
+        Line::Binary(o, t, _, _) => gives(o, t),
+        Line::Conversion(_, u, _) => u,
     }
 }
 
 // Whether row a is one of the first n, of the type t.
+#[tactic(auto, using(crate::proofs::Lines::earlier_there, crate::proofs::Lines::earlier_missing))]
 fn is_earlier(rows: &[u32], n: usize, t: Ty, a: u32) -> bool
     requires { 4 * n ≤ length rows.now }
     ensures { result ≡ is_earlier (lines_in n rows.now) t (row a) }
 {
     let i = a as usize;
-    i < n && same_type(t, row_type(rows, i))
+    i < n && t == row_type(rows, i)
 }
 
 // Whether row b is one of the first n, of a number other than 0.
+#[tactic(auto, using(crate::proofs::Lines::divisor_there, crate::proofs::Lines::divisor_missing, crate::proofs::Lines::other_divisor))]
 fn is_divisor(rows: &[u32], n: usize, b: u32) -> bool
     requires { 4 * n ≤ length rows.now }
     ensures { result ≡ is_divisor (lines_in n rows.now) (row b) }
@@ -44,20 +47,21 @@ fn is_divisor(rows: &[u32], n: usize, b: u32) -> bool
     if n <= i {
         return false;
     }
-    let at = 4 * i;
-    let z = rows[at + 1];
-    match form_of(rows[at] / 8) {
-        Form::Number => z != 0,
+    match line_at(rows, i) {
+        Line::Number(_, z) => z != 0,
         _ => false,
     }
 }
 
 // Whether there is a cell c, of the type t.
+#[tactic(auto, using(crate::proofs::Infos::cell_there, crate::proofs::Infos::cell_missing))]
 fn is_cell(cells: &[u32], t: Ty, c: u32) -> bool
     ensures { result ≡ is_cell (map info_in cells.now) t (record { 0 = c }) }
 {
-    let i = c as usize;
-    i < cells.len() && same_type(t, type_in(cells[i] % 8))
+    match cells.get(c as usize) {
+        Some(x) => t == type_with(x % 8),
+        None => false,
+    }
 }
 
 // An operator's operands: earlier rows of one type that it takes, and a good divisor.
@@ -71,48 +75,46 @@ fn binary_keeps(rows: &[u32], n: usize, o: Op, t: Ty, a: u32, b: u32) -> bool
         & (!divides(o) | is_divisor(rows, n, b))
 }
 
+// A known operation and a known type.
+fn is_known(head: u32) -> bool
+    ensures { result ≡ is_known head }
+{
+    head / 8 < 23 && head % 8 < 5
+}
+
 // Rule 11 for row i.
 fn row_keeps(rows: &[u32], i: usize, cells: &[u32]) -> bool
     requires { 4 * i + 4 ≤ length rows.now }
     ensures { result ≡ row_keeps (map info_in cells.now) rows.now i }
 {
-    let at = 4 * i;
-    let o = rows[at];
-    let a = rows[at + 1];
-    let b = rows[at + 2];
-    let c = rows[at + 3];
-    if 4 < o % 8 {
+    if !is_known(rows[4 * i]) {
         return false;
     }
-    let t = type_in(o % 8);
-    match form_of(o / 8) {
-        Form::Number => is_residue(t, a),
-        Form::Read => is_cell(cells, t, a),
-        Form::Minus => is_signed(t) & is_earlier(rows, i, t, a),
-        Form::Complement => same_type(t, Ty::Bool) & is_earlier(rows, i, Ty::Bool, a),
-        Form::Select => is_earlier(rows, i, Ty::Bool, a)
-            & is_earlier(rows, i, t, b)
-            & is_earlier(rows, i, t, c),
-        Form::Binary(op) => binary_keeps(rows, i, op, t, a, b),
-        Form::Conversion(u) => is_integer(t)
-            & is_integer(u)
-            & !same_type(t, u)
-            & is_earlier(rows, i, t, a),
-        Form::Unknown => false,
+    match line_at(rows, i) {
+        Line::Number(t, z) => is_residue(t, z),
+        Line::Read(t, c) => is_cell(cells, t, c),
+        Line::Minus(t, a) => is_signed(t) & is_earlier(rows, i, t, a),
+        Line::Complement(t, a) => (t == Ty::Bool) & is_earlier(rows, i, Ty::Bool, a),
+        Line::Select(t, c, a, b) => {
+            is_earlier(rows, i, Ty::Bool, c) & is_earlier(rows, i, t, a) & is_earlier(rows, i, t, b)
+        }
+        Line::Binary(o, t, a, b) => binary_keeps(rows, i, o, t, a, b),
+        Line::Conversion(t, u, a) => {
+            (t != Ty::Bool) & (u != Ty::Bool) & (t != u) & is_earlier(rows, i, t, a)
+        }
     }
 }
 
 // Rule 11 for the first n rows.
+#[tactic(auto, using(crate::proofs::Keeping::keep_none, crate::proofs::Keeping::keep_turn, crate::proofs::Keeping::keep_stop))]
 pub fn rows_keep(rows: &[u32], n: usize, cells: &[u32]) -> bool
     requires { 4 * n ≤ length rows.now }
     ensures { result ≡ rows_keep (map info_in cells.now) rows.now n }
 {
-    let mut i = 0;
-    while i < n {
+    for i in 0..n {
         if !row_keeps(rows, i, cells) {
             return false;
         }
-        i += 1;
     }
     true
 }
@@ -124,11 +126,12 @@ fn cell_keeps(rows: &[u32], n: usize, x: u32) -> bool
     requires { 4 * n ≤ length rows.now }
     ensures { result ≡ cell_keeps (lines_in n rows.now) (info_in x) x }
 {
-    let k = x / 16;
+    let has_next = x / 16 != 0;
     if is_input(x) {
-        return k == 0;
+        !has_next
+    } else {
+        has_next && is_earlier(rows, n, type_with(x % 8), next_row(x))
     }
-    (k != 0) & is_earlier(rows, n, type_in(x % 8), next_row(x))
 }
 
 // Rule 11 for the cells, over the first n rows.
@@ -136,12 +139,5 @@ pub fn cells_keep(rows: &[u32], n: usize, cells: &[u32]) -> bool
     requires { 4 * n ≤ length rows.now }
     ensures { result ≡ cells_keep (lines_in n rows.now) (map info_in cells.now) cells.now }
 {
-    let mut i = 0;
-    while i < cells.len() {
-        if !cell_keeps(rows, n, cells[i]) {
-            return false;
-        }
-        i += 1;
-    }
-    true
+    cells.iter().all(|x| cell_keeps(rows, n, *x))
 }

@@ -1,5 +1,5 @@
 -- The run of a node's list, from those of the lists below it.
-use mathlib.Core.Path.{◌≡◌, refl, sym, ap, ap₂, ◌∙◌}
+use mathlib.Core.Path.{◌≡◌, refl, sym, ap, ◌∙◌}
 use mathlib.Core.Bool.{Bool, true, false, cond}
 use mathlib.Core.List.{List}
 use Prim.Native.Nat.{ℕ, suc, ◌+◌, ◌<◌, min}
@@ -11,7 +11,8 @@ use Rattle.demands.proofs.PlainRuns.{run-⨾, run_length, taken}
 use Rattle.tree.specs.Nodes.{word_of, child_of}
 use Rattle.tree.proofs.Decodes.{child_less}
 use Rattle.plain.specs.Flat.{expr_at, list_at}
-use Rattle.plain.proofs.Lists.{list_nil, list_assign, list_choice, list_both, list_other}
+use Rattle.plain.specs.Kinds.{operand, sublist, IsStatement}
+use Rattle.plain.specs.declared.kinds.Statement.TheVariants as F
 use Rattle.run.specs.Parts.{branch_of, ran_from, Runs}
 
 -- ---- steps from n on are n more
@@ -50,19 +51,19 @@ unfolding run
 none_runs s = record { state = refl; steps = refl }
 
 -- an IF runs one of its lists
-choice_runs : (e : Expr) (a b x : Stmts) (old new : State) (n r : ℕ) → x ≡ cond (is_true (value_of old e)) a b → Runs x old new n → r ≡ min 65535 (n + 1)
+choice_runs : (e : Expr) (a b x : Stmts) (old new : State) (n r : ℕ) → x ≡ cond (is_true (value_of old e)) a b → Runs x old new n → r ≡ min (n + 1) 65535
     → Runs (choice e a b done) old new r
 unfolding run
 choice_runs e a b x old new n r h g k =
     let q : run (choice e a b done) (record { state = old; steps = 0 }) ≡ after 1 (ran_from x old) =
     go (is_true (value_of old e)) ∙ ap (λ y. after 1 (ran_from y old)) (sym h) in
-    record { state = g.state ∙ sym (ap (λ z. z.state) q); steps = k ∙ ap (λ m. min 65535 (m + 1)) g.steps ∙ omega (arith, ap (λ z. z.steps) q) }
+    record { state = g.state ∙ sym (ap (λ z. z.state) q); steps = omega (arith, k, g.steps, ap (λ z. z.steps) q) }
   where
     go : (t : Bool) → taken t (run a (record { state = old; steps = 1 })) (run b (record { state = old; steps = 1 })) ≡ after 1 (ran_from (cond t a b) old)
     go true = from_steps a old 1
     go false = from_steps b old 1
 
-join_runs : (a b : Stmts) (old mid new : State) (m n r : ℕ) → Runs a old mid m → Runs b mid new n → r ≡ min 65535 (m + n) → Runs (a ⨾ b) old new r
+join_runs : (a b : Stmts) (old mid new : State) (m n r : ℕ) → Runs a old mid m → Runs b mid new n → r ≡ min (m + n) 65535 → Runs (a ⨾ b) old new r
 join_runs a b old mid new m n r x y k =
     let start : Ran = record { state = old; steps = 0 } in
     let q : run (a ⨾ b) start ≡ after (ran_from a old).steps (ran_from b mid) =
@@ -71,9 +72,6 @@ join_runs a b old mid new m n r x y k =
 
 -- ---- nodes
 
-pub nil_runs : (p : List ℕ) (s : State) → Runs (list_at p 0) s s 0
-nil_runs p s = rw (list_nil p) (none_runs s)
-
 pub branch_less : (p : List ℕ) (i : ℕ) (s : State) → 0 < i → branch_of p i s < i
 branch_less p i s l = go (is_true (value_of s (expr_at p (child_of p i 1))))
   where
@@ -81,34 +79,23 @@ branch_less p i s l = go (is_true (value_of s (expr_at p (child_of p i 1))))
     go true = child_less p i 2 l
     go false = child_less p i 3 l
 
-module _ (p : List ℕ) (i : ℕ) (some : 0 < i) where
-  pub assign_runs : word_of p i 0 < 41 → (old new : State) → new ≡ set old (word_of p i 1) (value_of old (expr_at p (child_of p i 2))) → Runs (list_at p i) old new 1
-  unfolding run
-  assign_runs l old new e = rw (list_assign p i some l) (record { state = e; steps = refl })
+module _ (p : List ℕ) (i : ℕ) where
+  pub nothing_runs : IsStatement p i F.Nothing → (s : State) → Runs (list_at p i) s s 0
+  nothing_runs v s = rw v.list (none_runs s)
 
-  pub if_runs : word_of p i 0 ≡ 41 → (old new : State) (j n r : ℕ) → j ≡ branch_of p i old → Runs (list_at p j) old new n → r ≡ min 65535 (n + 1) → Runs (list_at p i) old new r
-  if_runs e old new j n r h g k =
-      rw (list_choice p i some e) (choice_runs _ _ _ (list_at p j) old new n r (ap (list_at p) h ∙ go (is_true (value_of old (expr_at p (child_of p i 1))))) g k)
+  pub assign_runs : IsStatement p i F.Assignment → (old new : State) → new ≡ set old (word_of p i 1) (value_of old (operand p i 2)) → Runs (list_at p i) old new 1
+  unfolding run
+  assign_runs v old new e = rw v.list (record { state = e; steps = refl })
+
+  pub if_runs : IsStatement p i F.Choice → (old new : State) (j n r : ℕ) → j ≡ branch_of p i old → Runs (list_at p j) old new n → r ≡ min (n + 1) 65535
+      → Runs (list_at p i) old new r
+  if_runs v old new j n r h g k =
+      rw v.list (choice_runs _ _ _ (list_at p j) old new n r (ap (list_at p) h ∙ go (is_true (value_of old (operand p i 1)))) g k)
     where
-      go : (t : Bool) → list_at p (cond t (child_of p i 2) (child_of p i 3)) ≡ cond t (list_at p (child_of p i 2)) (list_at p (child_of p i 3))
+      go : (t : Bool) → list_at p (cond t (child_of p i 2) (child_of p i 3)) ≡ cond t (sublist p i 2) (sublist p i 3)
       go true = refl
       go false = refl
 
-  pub both_runs : word_of p i 0 ≡ 44 → (old mid new : State) (m n r : ℕ) → Runs (list_at p (child_of p i 1)) old mid m → Runs (list_at p (child_of p i 2)) mid new n → r ≡ min 65535 (m + n)
-      → Runs (list_at p i) old new r
-  both_runs e old mid new m n r x y k = rw (list_both p i some e) (join_runs _ _ old mid new m n r x y k)
-
-  pub other_runs : 41 < word_of p i 0 → (word_of p i 0 ≡ 44 → ⊥) → (s : State) → Runs (list_at p i) s s 0
-  other_runs l h s = rw (list_other p i some l h) (none_runs s)
-
--- the list that the test of an IF picks
-pub branch_picked : (p : List ℕ) (i : ℕ) (s : State) (j v r : ℕ) (t b : Bool) → j ≡ child_of p i 1 → v ≡ value_of s (expr_at p j) → t ≡ is_true v → t ≡ b
-    → r ≡ cond b (child_of p i 2) (child_of p i 3) → r ≡ branch_of p i s
-branch_picked p i s j v r t b e h k g q =
-    q
-    ∙ ap (λ x. cond x (child_of p i 2) (child_of p i 3)) (sym g ∙ k ∙ ap is_true (h ∙ ap (λ n. value_of s (expr_at p n)) e))
-
--- the value of an expression in its cell
-pub stored_at : (p : List ℕ) (old new : State) (c w v j k : ℕ) → new ≡ set old c v → c ≡ w → v ≡ value_of old (expr_at p j) → j ≡ k
-    → new ≡ set old w (value_of old (expr_at p k))
-stored_at p old new c w v j k h e g q = h ∙ ap₂ (set old) e (g ∙ ap (λ n. value_of old (expr_at p n)) q)
+  pub both_runs : IsStatement p i F.List → (old mid new : State) (m n r : ℕ) → Runs (sublist p i 1) old mid m → Runs (sublist p i 2) mid new n
+      → r ≡ min (m + n) 65535 → Runs (list_at p i) old new r
+  both_runs v old mid new m n r x y k = rw v.list (join_runs _ _ old mid new m n r x y k)

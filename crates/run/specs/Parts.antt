@@ -5,15 +5,6 @@ use Rattle.paper.specs.Plain.{State, Stmts, Ran, value_of, run}
 use Rattle.tree.specs.Nodes.{child_of}
 use Rattle.plain.specs.Flat.{expr_at}
 
--- the value of a node from that of its operand, in any state
-abbrev pub FromOne : List ℕ → ℕ → ℕ → ℕ → Type 0
-FromOne p i a r = (s : State) → a ≡ value_of s (expr_at p (child_of p i 1)) → r ≡ value_of s (expr_at p i)
-
--- and from those of its two operands
-abbrev pub FromTwo : List ℕ → ℕ → ℕ → ℕ → ℕ → Type 0
-FromTwo p i a b r =
-    (s : State) → a ≡ value_of s (expr_at p (child_of p i 1)) → b ≡ value_of s (expr_at p (child_of p i 2)) → r ≡ value_of s (expr_at p i)
-
 -- the list that an IF runs
 abbrev pub branch_of : List ℕ → ℕ → State → ℕ
 branch_of p i s = cond (is_true (value_of s (expr_at p (child_of p i 1)))) (child_of p i 2) (child_of p i 3)

@@ -2,7 +2,7 @@
 use mathlib.Core.Path.{◌≡◌, refl, ap, ◌∙◌}
 use mathlib.Core.Bool.{Bool, ◌||◌}
 use mathlib.Core.List.{List, [], ◌∷◌}
-use Prim.Native.Nat.{ℕ, zero, suc, ◌≤◌, ◌<◌}
+use Prim.Native.Nat.{ℕ, zero, suc, ◌≤◌}
 use native.Mathlib.Omega.{arith}
 use lib.ListN.{length, set}
 use Rattle.paper.specs.declared.Row.{Row}
@@ -12,7 +12,8 @@ use Rattle.paper.specs.Plain.{Stmts, assigns, ◌⨾◌}
 use Rattle.paper.specs.Tables.{Line, row, expression_rows, merge, statement_rows}
 use Rattle.tree.specs.Nodes.{word_of, child_of}
 use Rattle.plain.specs.Flat.{expr_at, list_at}
-use Rattle.plain.proofs.Lists.{list_nil, list_assign, list_choice, list_both, list_other}
+use Rattle.plain.specs.Kinds.{IsStatement}
+use Rattle.plain.specs.declared.kinds.Statement.TheVariants as F
 use Rattle.table.specs.declared.records.Made.{Made}
 use Rattle.table.specs.Growth.{rows_in, Room}
 use Rattle.table.specs.Walks.{Makes, Stands, Binds, Selects}
@@ -60,46 +61,43 @@ module _ (infos p env : List ℕ) where
   unfolding statement_rows
   none_binds s e old n = rw e (λ is read base rs holds room. (holds, refl))
 
-  pub nil_binds : (i : ℕ) → i ≡ 0 → (old : List ℕ) (n : ℕ) → Binds infos (list_at p i) env env old old n n
-  nil_binds i e = none_binds (list_at p i) (ap (list_at p) e ∙ list_nil p)
-
-  module _ (i : ℕ) (node : 0 < i) where
-    pub other_binds : 41 < word_of p i 0 → (word_of p i 0 ≡ 44 → ⊥) → (old : List ℕ) (n : ℕ) → Binds infos (list_at p i) env env old old n n
-    other_binds l h = none_binds (list_at p i) (list_other p i node l h)
+  module _ (i : ℕ) where
+    pub nil_binds : IsStatement p i F.Nothing → (old : List ℕ) (n : ℕ) → Binds infos (list_at p i) env env old old n n
+    nil_binds s = none_binds (list_at p i) s.list
 
     module _ (env' old new : List ℕ) (n r : ℕ) where
-      pub assign_binds : word_of p i 0 < 41 → (v : Row) → env' ≡ set env (word_of p i 1) v.0
+      pub assign_binds : IsStatement p i F.Assignment → (v : Row) → env' ≡ set env (word_of p i 1) v.0
           → Makes old new n (expression_rows (rows_in env) (expr_at p (child_of p i 2))) (record { count = r; at = v })
           → Binds infos (list_at p i) env env' old new n r
       unfolding statement_rows
-      assign_binds l v e made =
-          rw (list_assign p i node l) (λ is read base rs holds room.
+      assign_binds s v e made =
+          rw s.list (λ is read base rs holds room.
           let x = made base rs holds room in
           (x.0, ap rows_in e ∙ rows_set env (word_of p i 1) v.0 ∙ ap (set (rows_in env) (word_of p i 1)) x.1))
 
-      pub both_binds : word_of p i 0 ≡ 44 → (mid far : List ℕ) (m : ℕ) → Binds infos (list_at p (child_of p i 1)) env mid old far n m
+      pub both_binds : IsStatement p i F.List → (mid far : List ℕ) (m : ℕ) → Binds infos (list_at p (child_of p i 1)) env mid old far n m
           → Binds infos (list_at p (child_of p i 2)) mid env' far new m r → Binds infos (list_at p i) env env' old new n r
-      both_binds e mid far m first second is read base rs holds =
+      both_binds s mid far m first second is read base rs holds =
           let a = list_at p (child_of p i 1) in
           let b = list_at p (child_of p i 2) in
           let y = statement_rows is a (rows_in env) rs in
           let whole : statement_rows is (list_at p i) (rows_in env) rs ≡ statement_rows is b y.env y.rows
-          = ap (λ s. statement_rows is s (rows_in env) rs) (list_both p i node e) ∙ statement_join is a b (rows_in env) rs in
+          = ap (λ l. statement_rows is l (rows_in env) rs) s.list ∙ statement_join is a b (rows_in env) rs in
           rw whole (λ room.
           let x = first is read base rs holds (room_less base _ _ (statement_grows is b y.env y.rows) room) in
           let z : Stands base new r env' (statement_rows is b y.env y.rows) = rw x.1 at (second is read base y.rows x.0) in
           z room)
 
       -- both lists from the same rows, and then the cells
-      pub choice_binds : word_of p i 0 ≡ 41 → (x : Made) (one two three start ys zs : List ℕ) (m k : ℕ)
+      pub choice_binds : IsStatement p i F.Choice → (x : Made) (one two three start ys zs : List ℕ) (m k : ℕ)
           → Makes old one n (expression_rows (rows_in env) (expr_at p (child_of p i 1))) x
           → Binds infos (list_at p (child_of p i 2)) env ys one two x.count m
           → start ≡ env → Binds infos (list_at p (child_of p i 3)) start zs two three m k
           → Selects (list_at p (child_of p i 2)) (list_at p (child_of p i 3)) x.at infos ys env' zs three new k r
           → Binds infos (list_at p i) env env' old new n r
       unfolding statement_rows
-      choice_binds e x one two three start ys zs m k test then copied other merged =
-          rw (list_choice p i node e) (λ is read base rs holds room.
+      choice_binds s x one two three start ys zs m k test then copied other merged =
+          rw s.list (λ is read base rs holds room.
           let a = list_at p (child_of p i 2) in
           let b = list_at p (child_of p i 3) in
           let w : ℕ → Bool = λ c. assigns a c || assigns b c in

@@ -1,13 +1,11 @@
 -- The cells one by one: rows for their values at the scan's start, and their records.
 use mathlib.Core.Path.{◌≡◌, refl, sym, ap, ap₂, ◌∙◌}
 use mathlib.Core.List.{List, [], ◌∷◌, ◌++◌, append_assoc, append-nil}
-use Prim.Native.Nat.{ℕ, suc, ◌+◌, ◌*◌, ◌/◌, ◌%◌, ◌≤◌, ◌<◌}
+use Prim.Native.Nat.{ℕ, suc, ◌+◌, ◌%◌, ◌≤◌, ◌<◌}
 use native.Mathlib.Numerals.{add-one}
 use native.Mathlib.Omega.{arith}
-use borrow.Author.Tests.{eq-eqb, ne_eqb}
 use lib.ListN.{length, get_or, take, drop, set, length-set, length-append, drop_of_length-le}
 use lib.Seq.{drop-cons, get_or-take, get_or-set_same, take-take, take-set-le, drop-set-lt}
-use Rattle.paper.specs.declared.Row.{Row}
 use Rattle.paper.specs.Names.{Info}
 use Rattle.paper.specs.Tables as T
 use Rattle.paper.specs.Tables.{row, cell_record, cell_records, reads, rows_from}
@@ -41,12 +39,6 @@ module _ (i v : ℕ) (old new : List ℕ) (later : Front (suc i) (set old i v) n
       ∙ ap (λ x. x ∷ drop (suc i) new) (get_or-set_same old i v 0 l)
 
 -- ---- the cells' records
-
-pub input_record : (x : ℕ) (n : Row) → x / 8 % 2 ≡ 1 → (i : Info) → Says x i → x % 8 + 8 ≡ cell_record i n
-input_record x n h i s = rw (s.1, eq-eqb (x / 8 % 2) 1 h, s.0)
-
-pub other_record : (x : ℕ) (n : Row) → (x / 8 % 2 ≡ 1 → ⊥) → (i : Info) → Says x i → x % 8 + 16 * (n.0 + 1) ≡ cell_record i n
-other_record x n h i s = rw (s.1, ne_eqb (x / 8 % 2) 1 h, s.0, add-one)
 
 module _ (i : ℕ) (infos env old : List ℕ) where
   pub ends_none : length infos ≤ i → Ends i infos env old old

@@ -80,11 +80,3 @@ module _ (old : List ℕ) (n h a b c : ℕ) where
           let y : 4 * n + 2 ≡ suc (suc (4 * n)) = omega arith in
           let z : 4 * n + 3 ≡ suc (suc (suc (4 * n))) = omega arith in
           rw (x, y, z)
-
-  -- where there is none, there was no room
-  pub emit_none : (n < 65535 → 4 * n + 4 ≤ length old → ⊥) → Emits old old n h a b c n
-  emit_none full l e base rs holds room =
-      let size : length (rs ++ l ∷ []) ≡ suc (length rs) = length_more rs l in
-      let long : length (records rs) ≡ 4 * n = length_records rs ∙ ap (λ k. 4 * k) (sym holds.count) in
-      let same : length old ≡ length base = ap length holds.rows ∙ length_over (records rs) base (omega (arith, holds.count)) in
-      absurd (full (omega (arith, holds.count)) (omega (arith, holds.count)))

@@ -1,8 +1,6 @@
 -- What the walks of ST0 leave: rows behind any that stand there, and the rows that stand for the cells.
-use Rattle.std.specs.Prelude.{◌≡◌, Bool, cond, ◌||◌, List, [], ◌∷◌, ◌++◌, ℕ, ◌-◌, ◌/◌, ◌%◌, ◌<◌, eqb, ltb, length, get_or, drop}
+use Rattle.std.specs.Prelude.{◌≡◌, Bool, ◌||◌, List, [], ◌∷◌, ◌++◌, ℕ, ◌/◌, ◌%◌, ◌<◌, eqb, length, drop}
 use Rattle.std.proofs.Math.Option.{some}
-use Rattle.paper.specs.declared.Ty.TheVariants.{Bool as BOOL}
-use Rattle.paper.specs.declared.Op.TheVariants.{Or}
 use Rattle.paper.specs.declared.Row.{Row}
 use Rattle.paper.specs.Types.{tag}
 use Rattle.paper.specs.Names.{Info}
@@ -10,9 +8,7 @@ use Rattle.paper.specs.Plain.{Stmts, assigns}
 use Rattle.paper.specs.Tables as T
 use Rattle.paper.specs.Tables.{Line, record_of, records, cell_records, infos_of, merge, statement_rows, reads, rows_from, table_of}
 use Rattle.paper.specs.Judge.{over}
-use Rattle.tree.specs.Nodes.{word_of}
-use Rattle.tree.specs.Trees.{types, operators}
-use Rattle.plain.specs.Flat.{type_at, list_at}
+use Rattle.plain.specs.Flat.{list_at}
 use Rattle.plain.specs.Marks.{is_marked}
 use Rattle.table.specs.declared.records.Made.{Made}
 use Rattle.table.specs.Growth.{rows_in, Room, Holds, Front}
@@ -28,18 +24,6 @@ Makes old new n f r =
 -- one row more, by the four numbers of its record
 abbrev pub Pushes : List ℕ → List ℕ → ℕ → ℕ → ℕ → ℕ → ℕ → Made → Type 0
 Pushes old new n h a b c r = (l : Line) → record_of l ≡ h ∷ a ∷ b ∷ c ∷ [] → Makes old new n (λ rs. T.push rs l) r
-
--- the row of an operator at a node of the kind k, over the rows a and b
-abbrev pub operator_line : List ℕ → ℕ → ℕ → Row → Row → Line
-operator_line p i k a b =
-    cond (eqb k 7) (T.minus (type_at p i) a)
-    (cond (eqb k 8) (T.complement BOOL a)
-    (cond (eqb k 10) (T.conversion (get_or types (word_of p i 2 / 8) BOOL) (get_or types (word_of p i 2 % 8) BOOL) a)
-    (T.binary (get_or operators (k - 11) Or) (type_at p i) a b)))
-
--- the first number h of its record, whatever the operands
-abbrev pub HeadOf : List ℕ → ℕ → ℕ → ℕ → Type 0
-HeadOf p i k h = (a b : Row) → record_of (operator_line p i k a b) ≡ h ∷ a.0 ∷ cond (ltb k 11) 0 b.0 ∷ 0 ∷ []
 
 -- ---- lists
 

@@ -8,7 +8,6 @@ ghost use Rattle.table.specs.Walks.{Pushes, Says, Ends};
 
 use crate::standing::row_of;
 use paper::{Cell, Row, Ty};
-use value::tag_of;
 
 // The number of rows so far, and the row that stands for an expression.
 #[derive(Clone, Copy)]
@@ -21,11 +20,8 @@ pub struct Made {
 fn emit_row(rows: &mut [u32], count: u16, head: u32, a: u32, b: u32, c: u32) -> u16
     ensures { Emits rows.old rows.new count head a b c result }
 {
-    let i = 4 * (count as usize);
-    if 65534 < count {
-        return count;
-    }
-    if rows.len() < i + 4 {
+    let i = 4 * count as usize;
+    if count == u16::MAX || rows.len() < i + 4 {
         return count;
     }
     rows[i] = head;
@@ -85,7 +81,7 @@ pub fn head(operation: u32, t: Ty) -> u32
     requires { operation ≤ 65535 }
     ensures { result ≡ 8 * operation + tag t }
 {
-    8 * operation + tag_of(t) as u32
+    8 * operation + u8::from(t) as u32
 }
 
 // A cell's number, by its type and kind and its next row.
@@ -93,21 +89,18 @@ fn cell_record(info: u32, next: Row) -> u32
     ensures { (i : Info) → Says info i → result ≡ cell_record i next }
 {
     if info / 8 % 2 == 1 {
-        return info % 8 + 8;
+        info % 8 + 8
+    } else {
+        info % 8 + 16 * (next.0 as u32 + 1)
     }
-    info % 8 + 16 * (next.0 as u32 + 1)
 }
 
-// The cells' numbers, from the cell `c` on.
-pub fn cell_records(c: Cell, infos: &[u32], env: &[u16], cells: &mut [u32])
+// The cells' numbers, each with its next row.
+pub fn cell_records(infos: &[u32], env: &[u16], cells: &mut [u32])
     requires { (length infos.now ≡ length env.now) × (length env.now ≤ 64) × (length infos.now ≤ length cells.old) }
-    ensures { Ends c.0 infos.now env.now cells.old cells.new }
+    ensures { Ends 0 infos.now env.now cells.old cells.new }
 {
-    let i = c.0 as usize;
-    if infos.len() <= i {
-        return;
+    for (i, info) in infos.iter().enumerate() {
+        cells[i] = cell_record(*info, row_of(env, Cell(i as u16)));
     }
-    let next = row_of(env, c);
-    cells[i] = cell_record(infos[i], next);
-    cell_records(Cell(c.0 + 1), infos, env, cells);
 }

@@ -1,5 +1,5 @@
 // The rows that stand for the cells. `env` holds their numbers, one for each cell; only these functions look into it.
-ghost use Rattle.std.specs.Prelude.{◌≡◌, length, get_or, set};
+ghost use Rattle.std.specs.Prelude.{◌≡◌, get_or, set};
 ghost use Rattle.paper.specs.Tables.{row};
 
 use paper::{Cell, Row};
@@ -8,8 +8,7 @@ use paper::{Cell, Row};
 pub fn row_of(env: &[u16], c: Cell) -> Row
     ensures { result ≡ row (get_or env.now c.0 0) }
 {
-    let i = c.0 as usize;
-    if i < env.len() { Row(env[i]) } else { Row(0) }
+    Row(env.get(c.0 as usize).copied().unwrap_or(0))
 }
 
 // The row `r` stands for the cell `c` from here on.
@@ -19,17 +18,5 @@ pub fn set_row(env: &mut [u16], c: Cell, r: Row)
     let i = c.0 as usize;
     if i < env.len() {
         env[i] = r.0;
-    }
-}
-
-// `to` as a copy of `from`.
-pub fn copy(from: &[u16], to: &mut [u16])
-    requires { length from.now ≡ length to.old }
-    ensures { to.new ≡ from.now }
-{
-    let mut i = 0;
-    while i < to.len() {
-        to[i] = from[i];
-        i += 1;
     }
 }

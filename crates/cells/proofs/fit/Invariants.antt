@@ -1,7 +1,5 @@
 use mathlib.Core.Path.{◌≡◌}
 use mathlib.Core.List.{map}
-use Prim.Native.Nat.{◌≤◌, ◌-◌}
-use lib.ListN.{length}
 use Rattle.paper.specs.Judge.{all_fit}
 use Rattle.cells.specs.Numbers.{info_of}
 use Rattle.cells.proofs.Values.{fit_from}
@@ -9,8 +7,4 @@ use Rattle.cells.proofs.fit.Given as goal
 
 abbrev pub invariant-loop-i : goal.invariant-loop-i
 invariant-loop-i l =
-    (l.i ≤ length l.cells) × (fit_from l.i l.cells l.state l.inputs ≡ all_fit (map info_of l.cells) l.state l.inputs)
-
-abbrev pub decreases-loop-i : goal.decreases-loop-i
-decreases-loop-i l =
-    length l.cells - l.i
+    fit_from l.i l.cells l.state l.inputs ≡ all_fit (map info_of l.cells) l.state l.inputs

@@ -1,7 +1,6 @@
 use mathlib.Core.Path.{◌≡◌}
 use mathlib.Core.List.{map}
-use Prim.Native.Nat.{◌≤◌, ◌-◌}
-use lib.ListN.{length, take}
+use lib.ListN.{take}
 use Rattle.paper.specs.Judge.{lent}
 use Rattle.cells.specs.Pour.{pour}
 use Rattle.cells.specs.Numbers.{info_of}
@@ -9,8 +8,4 @@ use Rattle.cells.proofs.lend.Given as goal
 
 abbrev pub invariant-loop-i : goal.invariant-loop-i
 invariant-loop-i l =
-    (l.i ≤ length l.cells) × (length l.state ≡ length l.initial.state) × (l.state ≡ pour (take l.i (lent (map info_of l.cells) l.held)) l.initial.state)
-
-abbrev pub decreases-loop-i : goal.decreases-loop-i
-decreases-loop-i l =
-    length l.cells - l.i
+    l.state ≡ pour (take l.i (lent (map info_of l.cells) l.held)) l.initial.state

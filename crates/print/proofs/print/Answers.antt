@@ -13,6 +13,7 @@ pub returns : goal.returns
 unfolding bytes
 returns c =
     let A = c.args in
+    let l = c.listed-variables.ensures in
     printed (name_at A.text.now A.name) (entries A.text.now A.pool.now A.table.now (length A.table.now / 4))
     (listed_in A.text.now A.pool.now A.table.now) (list_at A.plain.now A.root)
-    (named (λ k. rw c.name_of.ensures) (c.put-a.ensures then c.capitals-b.ensures then c.put-c.ensures then c.sections-d.ensures then c.list-e.ensures then c.put.ensures))
+    (named (λ k. rw c.name_of.ensures) (c.put-a.ensures then c.capitals-b.ensures then c.put-c.ensures then rw (l.0, l.1, l.2) at c.sections-d.ensures then rw (l.0, l.1, l.2, c.node_at.ensures.0, c.node_at.ensures.1) at c.list-e.ensures then c.put.ensures))

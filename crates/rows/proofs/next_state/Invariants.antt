@@ -1,14 +1,9 @@
 use mathlib.Core.List.{◌++◌}
 use mathlib.Core.Path.{◌≡◌}
-use Prim.Native.Nat.{◌-◌, ◌≤◌}
-use lib.ListN.{length, take, drop}
+use lib.ListN.{take, drop}
 use Rattle.rows.proofs.Infos.{nexts}
 use Rattle.rows.proofs.next_state.Given as goal
 
 abbrev pub invariant-loop-i : goal.invariant-loop-i
 invariant-loop-i l =
-    (take l.i l.state ++ nexts l.vals (drop l.i l.cells) (drop l.i l.state) ≡ nexts l.vals l.cells l.initial.state) × (l.i ≤ length l.cells) × (length l.state ≡ length l.initial.state)
-
-abbrev pub decreases-loop-i : goal.decreases-loop-i
-decreases-loop-i l =
-    length l.cells - l.i
+    take l.i l.state ++ nexts l.vals (drop l.i l.cells) (drop l.i l.state) ≡ nexts l.vals l.cells l.initial.state

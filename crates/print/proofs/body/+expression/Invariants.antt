@@ -1,4 +1,4 @@
 use Rattle.print.proofs.body.+expression.Given as goal
 
 abbrev pub decreases-expression : goal.decreases-expression
-decreases-expression l = l.i
+decreases-expression l = l.n.at

@@ -1,4 +1,4 @@
 use Rattle.print.proofs.body.+statements.Given as goal
 
 abbrev pub decreases-statements : goal.decreases-statements
-decreases-statements l = l.i
+decreases-statements l = l.n.at

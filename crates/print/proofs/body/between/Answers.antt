@@ -1,7 +1,9 @@
--- `print::body::between` meets its contract.
-use Rattle.print.proofs.Laws.{named, ◌then◌}
+-- By both lists.
+use Rattle.print.proofs.Laws.{◌then◌}
 use Rattle.print.proofs.body.between.Goals as goal
 
 pub returns : goal.returns
 returns c =
-    named (λ k. rw (c.child.ensures, c.child-2.ensures)) (c.semicolon-a.ensures then c.otherwise.ensures)
+    let two = c.child.ensures in
+    let three = c.child-2.ensures in
+    rw (two.0, two.1) at c.semicolon-a.ensures then rw (three.0, three.1) at c.otherwise.ensures

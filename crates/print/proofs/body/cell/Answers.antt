@@ -1,17 +1,15 @@
--- `print::body::cell` meets its contract.
-use mathlib.Core.Path.{◌∙◌}
-use Prim.Native.Nat.{◌/◌, ◌<◌}
-use native.Mathlib.Omega.{arith}
-use lib.ListN.{length}
+-- The variable's name, and the subscript.
+use Rattle.std.proofs.Common.{arith, ◌∙◌, ◌/◌, ◌<◌, length}
 use Rattle.print.proofs.Laws.{named, ◌then◌}
 use Rattle.print.proofs.Cells.{variable_cell_lem}
 use Rattle.print.proofs.body.cell.Goals as goal
 
 pub returns : goal.returns
 returns c =
-    let A = c.args in
+    let V = c.args.names.variables in
     let v = c.variable_of-v in
-    let l : v.result < length A.table.now / 4 = omega arith in
-    named (λ k. v.ensures.found l A.text.now k
-    ∙ variable_cell_lem A.text.now A.pool.now A.table.now v.result A.c _ _ k c.declaration_of.ensures.0 c.word-first.ensures)
-    (c.named-a.ensures then c.subscripted.ensures)
+    let at = c.declaration.ensures in
+    let l : v.result < length V.table.now / 4 = omega arith in
+    named (λ k. v.ensures.found l V.text.now k
+    ∙ variable_cell_lem V.text.now V.pool.now V.table.now v.result c.args.c _ _ k at.1 c.first_cell-first.ensures)
+    (c.named-a.ensures then rw (at.0) at c.subscripted.ensures)

@@ -1,9 +1,10 @@
--- `print::body::condition` meets its contract.
+-- The condition between its words.
 use Rattle.paper.specs.Words.{bytes}
-use Rattle.print.proofs.Laws.{named, ◌then◌}
+use Rattle.print.proofs.Laws.{◌then◌}
 use Rattle.print.proofs.body.condition.Goals as goal
 
 pub returns : goal.returns
 unfolding bytes
 returns c =
-    named (λ k. rw c.child.ensures) (c.put-a.ensures then c.expression-b.ensures then c.put.ensures)
+    let at = c.child.ensures in
+    c.put-a.ensures then rw (at.0, at.1) at c.expression-b.ensures then c.put.ensures

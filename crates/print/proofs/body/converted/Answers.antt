@@ -1,4 +1,4 @@
--- `print::body::converted` meets its contract.
+-- The names of the types.
 use Rattle.paper.specs.Words.{bytes}
 use Rattle.print.proofs.Laws.{named, ◌then◌}
 use Rattle.print.proofs.Bodies.{conversion_opens}
@@ -7,4 +7,4 @@ use Rattle.print.proofs.body.converted.Goals as goal
 pub returns : goal.returns
 unfolding bytes
 returns c =
-    named (λ k. rw (c.type_at.ensures, c.type_at-2.ensures, c.word-w.ensures) (conversion_opens _ _ k)) (c.type_name-a.ensures then c.put-b.ensures then c.type_name-c.ensures then c.put.ensures)
+    named (conversion_opens _ _) (c.type_name-a.ensures then c.put-b.ensures then c.type_name-c.ensures then c.put.ensures)

@@ -1,13 +1,7 @@
-use mathlib.Core.List.{◌++◌}
-use Prim.Native.Nat.{◌-◌, ◌≤◌}
-use lib.ListN.{take}
+use Rattle.std.proofs.Common.{◌++◌, take}
 use Rattle.print.specs.Printed.{Printed}
 use Rattle.print.proofs.bytes.put.Given as goal
 
-abbrev pub invariant-loop-i : goal.invariant-loop-i
-invariant-loop-i l =
-    (l.i ≤ l.n) × Printed l.initial.out l.out l.at (λ k. take l.i l.s ++ k) l.a
-
-abbrev pub decreases-loop-i : goal.decreases-loop-i
-decreases-loop-i l =
-    l.n - l.i
+abbrev pub invariant-loop-b : goal.invariant-loop-b
+invariant-loop-b l =
+    Printed l.initial.out l.out l.at (λ k. take l.b-index l.s ++ k) l.a

@@ -12,5 +12,5 @@ pub returns : goal.returns
 unfolding bytes
 returns c =
     let A = c.args in
-    let ds = of_section A.text.now A.pool.now A.table.now A.section (length A.table.now / 4) in
-    named (λ k. headed_some A.head.now ds k (λ e. c.if-count-eq0.false (c.count.ensures A.text.now ∙ e))) (c.put-a.ensures then c.listed-b.ensures then c.put.ensures)
+    let ds = of_section A.vars.text.now A.vars.pool.now A.vars.table.now A.section (length A.vars.table.now / 4) in
+    named (λ k. headed_some A.head.now ds k (λ e. c.if-count-eq0.false (c.count.ensures A.vars.text.now ∙ e))) (c.put-a.ensures then c.listed-b.ensures then c.put.ensures)

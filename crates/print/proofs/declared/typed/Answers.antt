@@ -1,18 +1,20 @@
--- `print::declared::typed` meets its contract.
-use mathlib.Core.Path.{sym, ap, ◌∙◌}
-use native.Mathlib.Omega.{arith}
-use Rattle.tree.specs.Nodes.{child_of}
+-- By the section and the bounds.
+use Rattle.std.proofs.Common.{arith, rules, sym, ◌≡◌, ◌∙◌}
+use Rattle.paper.specs.declared.Kind.TheVariants.{Output}
 use Rattle.print.proofs.Laws.{none, named}
 use Rattle.print.proofs.Sections.{typing_alone, typing_none}
 use Rattle.print.proofs.declared.typed.Goals as goal
 
-pub returns-then-s-eq1 : goal.returns-then-s-eq1
-returns-then-s-eq1 c =
-    let e = sym c.is_array.ensures ∙ c.if-is_array.true in
-    named (λ k. typing_none c.args.pool.now c.args.j _ _ c.section_of-s.ensures c.type_of-t.ensures k c.if-s-eq1.true e) (none _ _ (omega arith))
+pub returns-then-not-is_array : goal.returns-then-not-is_array
+returns-then-not-is_array c =
+    let N = c.args.n in
+    let one = c.child.ensures in
+    let two = c.child-then-not-is_array.ensures in
+    named (λ k. typing_alone N.pool.now N.at _ _ c.section_of-section.ensures c.type_of-t.ensures k _ (λ e. let h = rw e at c.eq.ensures in cc)
+    (sym c.is_array.ensures ∙ c.if-not-is_array.true) (rw (one.0, one.1) at two.1)) (rw (two.0, one.0) at c.valued.ensures)
 
-pub returns : goal.returns
-returns c =
-    let e = sym c.is_array.ensures ∙ c.if-is_array.false in
-    let i = c.child-2.ensures ∙ ap (λ b. child_of c.args.pool.now b 2) c.child.ensures in
-    named (λ k. typing_alone c.args.pool.now c.args.j _ _ c.section_of-s.ensures c.type_of-t.ensures k _ c.if-s-eq0.false e i) c.valued.ensures
+pub returns-then-eq-2 : goal.returns-then-eq-2
+returns-then-eq-2 c =
+    let N = c.args.n in
+    let output : c.section_of-section.result ≡ Output = search rules in
+    named (λ k. typing_none N.pool.now N.at _ _ c.section_of-section.ensures c.type_of-t.ensures k output (sym c.is_array.ensures ∙ c.if-not-is_array.false)) (none _ _ (omega arith))

@@ -10,10 +10,10 @@ pub returns-then-is_of : goal.returns-then-is_of
 unfolding bytes
 returns-then-is_of c =
     let A = c.args in
-    named (variable_printed A.text.now A.pool.now A.table.now A.section A.v _ (sym c.is_of.ensures ∙ c.if-is_of.true) c.declaration_of.ensures.0)
-    (c.named-a.ensures then c.put-b.ensures then c.typed.ensures)
+    named (variable_printed A.vars.text.now A.vars.pool.now A.vars.table.now A.section A.v _ (sym c.is_of.ensures ∙ c.if-is_of.true) c.declaration.ensures.1)
+    (c.named-a.ensures then c.put-b.ensures then rw c.declaration.ensures.0 at c.typed.ensures)
 
 pub returns : goal.returns
 returns c =
     let A = c.args in
-    named (variable_passed A.text.now A.pool.now A.table.now A.section A.v (sym c.is_of.ensures ∙ c.if-is_of.false)) (none _ _ (omega arith))
+    named (variable_passed A.vars.text.now A.vars.pool.now A.vars.table.now A.section A.v (sym c.is_of.ensures ∙ c.if-is_of.false)) (none _ _ (omega arith))

@@ -1,6 +1,4 @@
-use mathlib.Core.Path.{◌≡◌}
-use mathlib.Core.List.{List}
-use Prim.Native.Nat.{ℕ, ◌-◌, ◌≤◌}
+use Rattle.std.proofs.Common.{◌≡◌, List, ℕ}
 use Rattle.paper.specs.Printing.{cell}
 use Rattle.variables.specs.Table.{listed_in}
 use Rattle.print.proofs.Cells.{rest}
@@ -8,8 +6,4 @@ use Rattle.print.proofs.index.walked.Given as goal
 
 abbrev pub invariant-loop-v : goal.invariant-loop-v
 invariant-loop-v l =
-    (l.v ≤ l.n) × ((t k : List ℕ) → cell (listed_in t l.pool l.table) l.c k ≡ cell (rest t l.pool l.table l.v) l.c k)
-
-abbrev pub decreases-loop-v : goal.decreases-loop-v
-decreases-loop-v l =
-    l.n - l.v
+    (t k : List ℕ) → cell (listed_in t l.vars.pool.now l.vars.table.now) l.c k ≡ cell (rest t l.vars.pool.now l.vars.table.now l.v) l.c k

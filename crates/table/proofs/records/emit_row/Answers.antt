@@ -1,5 +1,5 @@
--- `table::records::emit_row` meets its contract: four stores, where there is room.
-use native.Mathlib.Omega.{arith}
+-- Four stores, where there is room.
+use Rattle.std.proofs.Common.{arith}
 use Rattle.table.proofs.Growing.{emit_written}
 use Rattle.table.proofs.records.emit_row.Goals as goal
 
