@@ -6,9 +6,9 @@ use Prim.Native.Nat.{ℕ, ◌+◌, ◌≤◌, ◌<◌}
 use native.Mathlib.Omega.{arith}
 use borrow.Author.Tests.{le-leb}
 use lib.ListN.{length, replicate}
+use Rattle.std.specs.Prelude.{Ok}
 use Rattle.paper.specs.declared.Ty.TheVariants.{Dint as DINT}
 use Rattle.paper.specs.declared.Cell.{Cell}
-use Rattle.paper.specs.declared.Verdict.TheVariants.{Accepted as AcceptedWith}
 use Rattle.paper.specs.Refusals.{Answer, given}
 use Rattle.paper.specs.Words.{Token, words_of}
 use Rattle.paper.specs.Source.{Name, Declared, Program}
@@ -19,6 +19,7 @@ use Rattle.paper.specs.Heights.{height_faults}
 use Rattle.paper.specs.Plain.{Stmts, figure, weight}
 use Rattle.paper.specs.Printing as P
 use Rattle.paper.specs.Unwinding.{Unwound, no_selector, unwound_program}
+use Rattle.paper.specs.Judge as J
 use Rattle.paper.specs.Judge.{Sound, smallest, judge, print_of, start_of, verdict}
 use Rattle.demands.specs.InTypes.{All}
 use Rattle.demands.proofs.Typed.{WellTyped}
@@ -53,8 +54,8 @@ accepts text ts pr u l w r n t h k = rw (le-leb (length text) 8192 l, w, r, n, t
 same_verdict : (text again : List ℕ) (a b : Sound) → judge text ≡ given a → judge again ≡ given b → Same a b → verdict again ≡ verdict text
 unfolding verdict
 same_verdict text again a b h k s =
-    let one : verdict again ≡ AcceptedWith (length b.cells) b.weight (figure b.plain) (length (print_of b)) = rw (k, verdict) refl in
-    let two : verdict text ≡ AcceptedWith (length a.cells) a.weight (figure a.plain) (length (print_of a)) = rw (h, verdict) refl in
+    let one : verdict again ≡ Ok (J.accepted b) = rw (k, verdict) refl in
+    let two : verdict text ≡ Ok (J.accepted a) = rw (h, verdict) refl in
     one ∙ rw (s.print, s.cells, s.weight, s.plain) (sym two)
 
 -- declarations alike and the same statements print alike

@@ -1,5 +1,6 @@
+pub mod Gives
 pub mod Ruling
 pub mod Shaping
 pub mod Firsts
-pub mod Refusals
 pub mod Finishing
+pub mod Refusals

@@ -1,6 +1,5 @@
 -- What judging leaves: a refusal, or the program in the lent buffers.
 use Rattle.std.specs.Prelude.{◌≡◌, List, ℕ, ◌+◌, ◌*◌, ◌≤◌, length, take}
-use Rattle.paper.specs.Refusals.{Answer, refused, given, number_of}
 use Rattle.paper.specs.Judge.{Sound}
 use Rattle.tree.specs.Trees.{program_at}
 use Rattle.variables.specs.Table.{listed_in}
@@ -18,8 +17,6 @@ pub record Roomy (t p table q : List ℕ) : Type 0 where
 
 -- the accepted program a: its tree in the pool p, its variables in the front of the table, its ST0 in the pool q
 pub record Stands (t p table q : List ℕ) (a : Sound) (r : Judged) : Type 0 where
-  pub number : r.number ≡ 0
-  pub place : r.place ≡ 0
   pub root : 4 * r.root + 4 ≤ length p
   pub program : program_at t p r.root ≡ a.program
   pub room : 4 * r.variables ≤ length table
@@ -30,7 +27,3 @@ pub record Stands (t p table q : List ℕ) (a : Sound) (r : Judged) : Type 0 whe
   pub plain : list_at q r.list ≡ a.plain
   pub weight : r.weight ≡ a.weight
   pub light : r.weight ≤ 3000
-
-abbrev pub JudgedAs : List ℕ → List ℕ → List ℕ → List ℕ → Answer Sound → Judged → Type 0
-JudgedAs t p table q (refused w at) r = (r.number ≡ number_of w) × (r.place ≡ at)
-JudgedAs t p table q (given a) r = Stands t p table q a r

@@ -21,8 +21,7 @@ use Rattle.demands.specs.InTypes.{InTypes, ReadingsIn}
 use Rattle.demands.specs.Demand3.{states}
 use Rattle.demands.proofs.Theorem.{demand_3}
 use Rattle.rows.proofs.Total.{total}
-use Rattle.lent.specs.declared.Outcome.{Outcome}
-use Rattle.lent.specs.Outcomes.{left}
+use Rattle.lent.specs.Outcomes.{Outcome, left}
 use Rattle.lent.specs.Tables as Tables
 use Rattle.lent.specs.Tables.{lent_with}
 use Rattle.kaldvimur.specs.Scans as Text

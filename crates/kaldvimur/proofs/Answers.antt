@@ -1,102 +1,83 @@
 -- The public functions' answers, from what judging left.
-use mathlib.Core.Path.{◌≡◌, refl, sym, ap, ◌∙◌}
+use mathlib.Core.Path.{◌≡◌, ap}
 use mathlib.Core.List.{List}
 use Prim.Native.Nat.{ℕ, ◌≤◌, ◌<◌, min}
 use native.Mathlib.Omega.{arith}
 use borrow.Author.Tests.{le-leb, lt-leb}
 use lib.ListN.{length}
-use Rattle.paper.specs.declared.Why.{Why}
+use Rattle.std.specs.Prelude.{Ok, Err}
 use Rattle.paper.specs.declared.Why.TheVariants.{NoRoom}
-use Rattle.paper.specs.declared.Verdict.TheVariants.{Accepted, Refused}
-use Rattle.paper.specs.Refusals.{Answer, refused, given, number_of}
+use Rattle.paper.specs.declared.Refusal.{Refusal}
+use Rattle.paper.specs.Refusals.{given, refusal, Gives}
 use Rattle.paper.specs.Plain.{figure}
 use Rattle.paper.specs.Judge.{Sound, judge, print_of, verdict, print_into}
 use Rattle.plain.specs.Flat.{list_at}
 use Rattle.print.specs.Printed.{limit}
-use Rattle.paper.proofs.Whys.{code_pos}
 use Rattle.demands.proofs.Prints.{few_steps}
 use Rattle.judge.specs.declared.Judged.{Judged}
-use Rattle.lent.specs.declared.Outcome.{Outcome}
-use Rattle.lent.specs.declared.Outcome.TheVariants.{Done, Refused as Undone}
-use Rattle.judge.specs.Judged.{Stands, JudgedAs}
+use Rattle.judge.specs.Judged.{Stands}
+use Rattle.kaldvimur.specs.Arrays.{Holds}
+use Rattle.judge.proofs.Gives.{gave, refuses}
 use Rattle.kaldvimur.specs.Prints.{Lies, Prints, Counts}
-use Rattle.kaldvimur.specs.Outcomes.{IsWhy, Refuses, PrintDid}
+use Rattle.kaldvimur.specs.Outcomes.{PrintDid}
 use Rattle.kaldvimur.proofs.Standing.{counts, written}
 
-module _ (t p table q : List ℕ) (j : Judged) (d : JudgedAs t p table q (judge t) j) where
-  -- ---- the answer, by the number 0 or another
+module _ (t : List ℕ) (e : Refusal) (d : Gives (Holds t) (judge t) (Err e)) where
+  pub verdict_refused : Err e ≡ verdict t
+  unfolding verdict
+  verdict_refused = let x = refuses (Holds t) (judge t) e d in rw x.is (ap Err x.same)
 
-  -- a refusal
-  pub record Refusal : Type 0 where
-    pub why : Why
-    pub is : judge t ≡ refused why j.place
-    pub number : j.number ≡ number_of why
+  pub print_refused : (old : List ℕ) → PrintDid t old old (Err e)
+  unfolding print_into
+  print_refused old =
+      let x = refuses (Holds t) (judge t) e d in
+      record { answer = rw (x.is, print_into) (ap Err x.same); lent = rw (x.is, print_into) }
 
-  pub refusal : ¬ (j.number ≡ 0) → Refusal
-  refusal z = go (judge t) refl d
-    where
-      go : (o : Answer Sound) → judge t ≡ o → JudgedAs t p table q o j → Refusal
-      go (refused w at) e h = record { why = w; is = e ∙ ap (refused w) (sym h.1); number = h.0 }
-      go (given a) e h = absurd (z h.number)
-
+module _ (t p table q : List ℕ) (j : Judged) (d : Gives (Stands t p table q) (judge t) (Ok j)) where
   -- an accepted program
   pub record Acceptance : Type 0 where
     pub program : Sound
     pub is : judge t ≡ given program
     pub stands : Stands t p table q program j
 
-  pub acceptance : j.number ≡ 0 → Acceptance
-  acceptance z = go (judge t) refl d
-    where
-      go : (o : Answer Sound) → judge t ≡ o → JudgedAs t p table q o j → Acceptance
-      go (refused w at) e h = absurd (code_pos w (sym h.0 ∙ z))
-      go (given a) e h = record { program = a; is = e; stands = h }
+  pub acceptance : Acceptance
+  acceptance = let (a, e, s) = gave (Stands t p table q) (judge t) j d in record { program = a; is = e; stands = s }
 
-  pub lies : j.number ≡ 0 → Lies p table q j
-  lies z = let s = (acceptance z).stands in record { root = s.root; room = s.room; list = s.list }
+  pub lies : Lies p table q j
+  lies = let s = acceptance.stands in record { root = s.root; room = s.room; list = s.list }
 
   -- ---- the verdict
 
-  pub verdict_refused : ¬ (j.number ≡ 0) → (r : Why) → IsWhy j.number r → Refused r j.place ≡ verdict t
+  pub verdict_given : (f n : ℕ) → f ≡ min 65535 (figure (list_at q j.list)) → Counts t p table q j n
+      → Ok (record { cells = j.cells; weight = j.weight; figure = f; length = n }) ≡ verdict t
   unfolding verdict
-  verdict_refused z r h = let x = refusal z in rw (x.is, h x.why x.number)
-
-  pub verdict_given : j.number ≡ 0 → (f n : ℕ) → f ≡ min 65535 (figure (list_at q j.list)) → Counts t p table q j n
-      → Accepted j.cells j.weight f n ≡ verdict t
-  unfolding verdict
-  verdict_given z f n e c =
-      let x = acceptance z in
+  verdict_given f n e c =
+      let x = acceptance in
       let a = x.program in
       let s = x.stands in
       let same : figure (list_at q j.list) ≡ figure a.plain = ap figure s.plain in
       let low : f ≡ figure a.plain = omega (arith, e, same, few_steps t a x.is) in
-      rw x.is (λ i. Accepted (s.cells i) (s.weight i) (low i) (c a x.is s i))
+      rw x.is (λ i. Ok (record { cells = s.cells i; weight = s.weight i; figure = low i; length = c a x.is s i }))
 
   -- ---- the print
 
-  pub print_refused : ¬ (j.number ≡ 0) → (r : Outcome) → Refuses j r → (old : List ℕ) → PrintDid t old old r
+  pub print_no_room : (n : ℕ) → Counts t p table q j n → (old : List ℕ) → length old < n → PrintDid t old old (Err (refusal NoRoom 0))
   unfolding print_into
-  print_refused z r h old =
-      let x = refusal z in
-      record { answer = rw (x.is, print_into) (h x.why x.number); lent = rw (x.is, print_into) }
-
-  pub print_no_room : j.number ≡ 0 → (n : ℕ) → Counts t p table q j n → (old : List ℕ) → length old < n → PrintDid t old old (Undone NoRoom 0)
-  unfolding print_into
-  print_no_room z n c old f =
-      let x = acceptance z in
+  print_no_room n c old f =
+      let x = acceptance in
       let a = x.program in
       let long = lt-leb (length (print_of a)) (length old) (omega (arith, c a x.is x.stands)) in
       record { answer = rw (x.is, print_into, long); lent = rw (x.is, print_into, long) }
 
-  pub print_done : j.number ≡ 0 → (n : ℕ) → Counts t p table q j n → (old new : List ℕ) (r : ℕ) → n ≤ length old → length old ≤ limit
-      → Prints t p table q j old new r → PrintDid t old new (Done r)
+  pub print_done : (n : ℕ) → Counts t p table q j n → (old new : List ℕ) (r : ℕ) → n ≤ length old → length old ≤ limit
+      → Prints t p table q j old new r → PrintDid t old new (Ok r)
   unfolding print_into
-  print_done z n c old new r f l b =
-      let x = acceptance z in
+  print_done n c old new r f l b =
+      let x = acceptance in
       let a = x.program in
       let fits : length (print_of a) ≤ length old = omega (arith, c a x.is x.stands) in
       let room = le-leb (length (print_of a)) (length old) fits in
       record {
-        answer = rw (x.is, print_into, room) (ap Done (counts t p table q j old new r b a x.is x.stands));
+        answer = rw (x.is, print_into, room) (ap Ok (counts t p table q j old new r b a x.is x.stands));
         lent = rw (x.is, print_into, room) (written (print_of a) (b a x.is x.stands) fits l);
       }

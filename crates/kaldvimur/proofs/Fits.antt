@@ -7,13 +7,11 @@ use native.Mathlib.Omega.{arith}
 use lib.Dec.{leb}
 use lib.ListN.{length, take, drop, length-append}
 use lib.Seq.{take_at}
-use Rattle.paper.specs.declared.Why.{Why}
-use Rattle.paper.specs.declared.Why.TheVariants.{NoRoom, TooLong}
+use Rattle.std.specs.Prelude.{Ok, Err}
+use Rattle.paper.specs.declared.Why.TheVariants.{NoRoom}
 use Rattle.paper.specs.Refusals.{Answer, refused, given, ◌>>=◌}
 use Rattle.paper.specs.Judge.{Sound, judge, print_of, print_into, room, over}
-use Rattle.lent.specs.declared.Outcome.{Outcome}
-use Rattle.lent.specs.declared.Outcome.TheVariants.{Done, Refused}
-use Rattle.lent.specs.Outcomes.{outcome, left}
+use Rattle.lent.specs.Outcomes.{Outcome, outcome, left}
 use Rattle.kaldvimur.specs.Outcomes.{printed, PrintDid}
 
 -- the print by the judgement
@@ -30,8 +28,8 @@ Printed new o n = (a : Sound) × (o ≡ given a) × (n ≤ length new) × (take 
 
 -- an outcome that is no refusal
 abbrev IsDone : Outcome → (ℕ → Type 0) → Type 0
-IsDone (Done n) P = P n
-IsDone (Refused w p) P = Unit {0}
+IsDone (Ok n) P = P n
+IsDone (Err e) P = Unit {0}
 
 front : (x rest : List ℕ) → take (length x) (x ++ rest) ≡ x
 front x rest = take_at x rest (length x) refl
@@ -40,36 +38,19 @@ front x rest = take_at x rest (length x) refl
 abbrev roomed : List ℕ → List ℕ → Bool → Answer (List ℕ)
 roomed x old b = cond b (given tt) (refused NoRoom 0) >>= λ (u : Unit {0}). given (over x old)
 
-done : (old : List ℕ) (o : Answer Sound) → IsDone (outcome (printed o) (into old o)) (Printed (left old (into old o)) o)
+done : (old : List ℕ) (o : Answer Sound) → IsDone (outcome (λ _. printed o) (into old o)) (Printed (left old (into old o)) o)
 done old (refused w p) = tt
 done old (given a) = go (leb (length (print_of a)) (length old))
   where
-    go : (b : Bool) → IsDone (outcome (length (print_of a)) (roomed (print_of a) old b)) (Printed (left old (roomed (print_of a) old b)) (given a))
+    go : (b : Bool) → IsDone (outcome (λ _. length (print_of a)) (roomed (print_of a) old b)) (Printed (left old (roomed (print_of a) old b)) (given a))
     go false = tt
     go true = (a, refl, simp length-append (omega arith), front (print_of a) (drop (length (print_of a)) old))
 
-pub print_done : (t old new : List ℕ) (n : ℕ) → PrintDid t old new (Done n)
+pub print_done : (t old new : List ℕ) (n : ℕ) → PrintDid t old new (Ok n)
     → (a : Sound) × (judge t ≡ given a) × (n ≤ length new) × (take n new ≡ print_of a)
 print_done t old new n d =
     let o = into old (judge t) in
-    let e : Done n ≡ outcome (printed (judge t)) o = d.answer ∙ ap (outcome (printed (judge t))) (into_is t old) in
+    let e : Ok n ≡ outcome (λ _. printed (judge t)) o = d.answer ∙ ap (outcome (λ _. printed (judge t))) (into_is t old) in
     let f : new ≡ left old o = d.lent ∙ ap (left old) (into_is t old) in
     subst (λ r. IsDone r (Printed new (judge t))) (sym e)
-    (subst (λ x. IsDone (outcome (printed (judge t)) o) (Printed x (judge t))) (sym f) (done old (judge t)))
-
--- ---- a refusal is the answer's own
-
-abbrev pub why_in : Outcome → Why
-why_in (Done n) = TooLong
-why_in (Refused w p) = w
-
-abbrev pub place_in : Outcome → ℕ
-place_in (Done n) = 0
-place_in (Refused w p) = p
-
-abbrev pub is_refused : Outcome → Bool
-is_refused (Done n) = false
-is_refused (Refused w p) = true
-
-pub print_refused : (t old new : List ℕ) (r : Outcome) (w : Why) (p : ℕ) → PrintDid t old new r → print_into t old ≡ refused w p → r ≡ Refused w p
-print_refused t old new r w p d e = d.answer ∙ ap (outcome (printed (judge t))) e
+    (subst (λ x. IsDone (outcome (λ _. printed (judge t)) o) (Printed x (judge t))) (sym f) (done old (judge t)))

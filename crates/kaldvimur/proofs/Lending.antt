@@ -2,12 +2,13 @@
 use mathlib.Core.Bool.{Bool, true, false}
 use mathlib.Core.List.{List}
 use mathlib.Core.Option.{some}
-use mathlib.Core.Path.{◌≡◌, refl, ◌∙◌, subst}
+use mathlib.Core.Path.{◌≡◌, refl, ap, ◌∙◌, subst}
 use Prim.Native.Nat.{ℕ, ◌+◌, ◌*◌, ◌≤◌}
 use native.Mathlib.Omega.{arith}
 use borrow.Author.Tests.{leb-true}
 use lib.Dec.{leb}
 use lib.ListN.{length, drop}
+use Rattle.std.specs.Prelude.{Ok}
 use Rattle.paper.specs.Names.{variables_of, cells_of}
 use Rattle.paper.specs.Plain.{weight}
 use Rattle.paper.specs.Refusals.{Answer, refused, given, ◌>>=◌}
@@ -19,10 +20,10 @@ use Rattle.demands.proofs.Cells.{few_cells}
 use Rattle.demands.proofs.Rows.{table_few}
 use Rattle.demands.proofs.Rule11.{ReadsBack, table_keeps}
 use Rattle.demands.proofs.Theorem.{walk_means}
-use Rattle.lent.specs.Outcomes.{left}
+use Rattle.lent.specs.Outcomes.{outcome, left}
 use Rattle.lent.specs.Tables.{lent_with}
-use Rattle.kaldvimur.specs.declared.tables.Tabled.TheVariants.{Made}
-use Rattle.kaldvimur.specs.Tables.{tabled, TableDid}
+use Rattle.kaldvimur.specs.declared.tables.Sizes.{Sizes}
+use Rattle.kaldvimur.specs.Tables.{sized, TableDid}
 use Rattle.kaldvimur.proofs.Longer.{over_long, cells_there, longer}
 
 -- ---- the program's own table
@@ -110,17 +111,18 @@ into_given t rows cells q e =
     (lends_into t a rows cells judged (room_there (4 * (a.weight + length a.cells)) rows x r) (room_there (length a.cells) cells y c))
 
 -- what `table` left, where it made one
-pub lends : (t oldRows oldCells rows cells : List ℕ) (n k : ℕ) → TableDid t oldRows oldCells rows cells (Made n k) → Lends t (lent_with rows cells n k)
+pub lends : (t oldRows oldCells rows cells : List ℕ) (n k : ℕ) → TableDid t oldRows oldCells rows cells (Ok (sized n k)) → Lends t (lent_with rows cells n k)
 lends t oldRows oldCells rows cells n k d =
     into_given t oldRows oldCells (lent_with rows cells n k) (go (table_into t oldRows oldCells) d.answer d.rows d.cells)
   where
     go : (o : Answer Lent)
-        → Made n k ≡ tabled o
+        → Ok (sized n k) ≡ outcome (λ x. sized x.row_count x.cell_count) o
         → rows ≡ left oldRows (o >>= λ x. given x.rows)
         → cells ≡ left oldCells (o >>= λ x. given x.cells)
         → o ≡ given (lent_with rows cells n k)
-    go (refused w p) h r c = let z : ◌≡◌ {A = ℕ} 0 1 = cc in absurd (omega arith)
+    go (refused w p) h r c = absurd cc
     go (given q) h r c =
-        let row_count : n ≡ q.row_count = cc in
-        let cell_count : k ≡ q.cell_count = cc in
+        let same : sized n k ≡ sized q.row_count q.cell_count = cc in
+        let row_count : n ≡ q.row_count = ap (λ (s : Sizes). s.rows) same in
+        let cell_count : k ≡ q.cell_count = ap (λ (s : Sizes). s.cells) same in
         rw (r, c, row_count, cell_count)

@@ -1,6 +1,6 @@
+pub mod Holding
 pub mod Orders
 pub mod Standing
-pub mod Whys
 pub mod Answers
 pub mod Fits
 pub mod Starting

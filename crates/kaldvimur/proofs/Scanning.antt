@@ -9,8 +9,10 @@ use borrow.Author.Tests.{le-leb, lt-leb, not-true, not-false}
 use lib.IntN.{ℤ}
 use lib.ListN.{length, take, drop, length-map, length-append}
 use lib.Seq.{take_at, length-take-le}
+use Rattle.std.specs.Prelude.{Ok, Err}
 use Rattle.paper.specs.declared.Why.TheVariants.{NoRoom, BadValue}
-use Rattle.paper.specs.Refusals.{given}
+use Rattle.paper.specs.declared.Refusal.{Refusal}
+use Rattle.paper.specs.Refusals.{given, refusal, Gives}
 use Rattle.paper.specs.Names.{Info, cells_of}
 use Rattle.paper.specs.Plain.{State, Stmts}
 use Rattle.paper.specs.Tables.{infos_of}
@@ -24,13 +26,13 @@ use Rattle.run.proofs.Lists.{runs_kept}
 use Rattle.demands.proofs.PlainRuns.{run_steps}
 use Rattle.demands.proofs.Prints.{few_steps}
 use Rattle.judge.specs.declared.Judged.{Judged}
-use Rattle.judge.specs.Judged.{Stands, JudgedAs}
-use Rattle.lent.specs.declared.Outcome.{Outcome}
-use Rattle.lent.specs.declared.Outcome.TheVariants.{Done, Refused}
-use Rattle.kaldvimur.specs.Outcomes.{Refuses}
+use Rattle.judge.specs.Judged.{Stands}
+use Rattle.kaldvimur.specs.Arrays.{Holds}
+use Rattle.lent.specs.Outcomes.{Outcome}
+use Rattle.judge.proofs.Gives.{refuses}
 use Rattle.kaldvimur.specs.Scans.{ScanDid}
 use Rattle.kaldvimur.specs.States.{CarriedOut, ScansIn}
-use Rattle.kaldvimur.proofs.Answers.{refusal, acceptance}
+use Rattle.kaldvimur.proofs.Answers.{acceptance}
 use Rattle.kaldvimur.proofs.Starting.{own_cells}
 
 -- ---- the statements carried out on a copy of the cells
@@ -71,7 +73,7 @@ module _ (p table q : List ℕ) (j : Judged) (inputs old : List ℤ) (zeros xs :
       let few : length a.cells ≤ length zeros = omega (arith, wide, s.cells, s.few) in
       record { count = all.count few; cells = all.cells few }
 
-  pub state_short : length old < n → ScansIn p table q j inputs old old (Refused NoRoom 0)
+  pub state_short : length old < n → ScansIn p table q j inputs old old (Err (refusal NoRoom 0))
   unfolding scan_from
   state_short f t a h s =
       let short = lt-leb (length a.cells) (length old) (omega (arith, (listed t a h s).count)) in
@@ -81,7 +83,7 @@ module _ (p table q : List ℕ) (j : Judged) (inputs old : List ℤ) (zeros xs :
     roomy : (t : List ℕ) (a : Sound) (h : judge t ≡ given a) (s : Stands t p table q a j) → length a.cells ≤ length old
     roomy t a h s = omega (arith, (listed t a h s).count)
 
-    pub inputs_short : length inputs < n → ScansIn p table q j inputs old old (Refused NoRoom 0)
+    pub inputs_short : length inputs < n → ScansIn p table q j inputs old old (Err (refusal NoRoom 0))
     unfolding scan_from
     inputs_short g t a h s =
         let long = le-leb (length a.cells) (length old) (roomy t a h s) in
@@ -89,7 +91,7 @@ module _ (p table q : List ℕ) (j : Judged) (inputs old : List ℤ) (zeros xs :
         record { answer = rw (h, scan_from, long, short); lent = rw (h, scan_from, long, short) }
 
     module _ (g : n ≤ length inputs) (fit : Bool) (v : Says (take n xs) (λ is. fit ≡ all_fit is old inputs)) where
-      pub scan_unfit : not fit ≡ true → ScansIn p table q j inputs old old (Refused BadValue 0)
+      pub scan_unfit : not fit ≡ true → ScansIn p table q j inputs old old (Err (refusal BadValue 0))
       unfolding scan_from
       scan_unfit e t a h s =
           let l = listed t a h s in
@@ -99,7 +101,7 @@ module _ (p table q : List ℕ) (j : Judged) (inputs old : List ℤ) (zeros xs :
           record { answer = rw (h, scan_from, state, readings, bad); lent = rw (h, scan_from, state, readings, bad) }
 
       pub scan_done : not fit ≡ false → (new : List ℤ) (r : ℕ) → Says (take n xs) (λ is. CarriedOut is (list_at q j.list) inputs old new r)
-          → ScansIn p table q j inputs old new (Done r)
+          → ScansIn p table q j inputs old new (Ok r)
       unfolding scan_from scan_plain
       scan_done e new r w t a h s =
           let l = listed t a h s in
@@ -112,18 +114,18 @@ module _ (p table q : List ℕ) (j : Judged) (inputs old : List ℤ) (zeros xs :
           let steps : r ≡ (ran_from a.plain cells).steps =
           omega (arith, ran.steps, run_steps a.plain (record { state = cells; steps = 0 }), few_steps t a h) in
           record {
-            answer = rw (h, scan_from, state, readings, good) (ap Done steps);
+            answer = rw (h, scan_from, state, readings, good) (ap Ok steps);
             lent = rw (h, scan_from, state, readings, good) ran.state;
           }
 
 -- ---- the text
 
-module _ (t p table q : List ℕ) (j : Judged) (d : JudgedAs t p table q (judge t) j) (inputs old : List ℤ) where
-  pub scan_refused : ¬ (j.number ≡ 0) → (r : Outcome) → Refuses j r → ScanDid t inputs old old r
-  unfolding scan_from
-  scan_refused z r h =
-      let x = refusal t p table q j d z in
-      record { answer = rw (x.is, scan_from) (h x.why x.number); lent = rw (x.is, scan_from) }
+pub scan_refused : (t : List ℕ) (e : Refusal) → Gives (Holds t) (judge t) (Err e) → (inputs old : List ℤ) → ScanDid t inputs old old (Err e)
+unfolding scan_from
+scan_refused t e d inputs old =
+    let x = refuses (Holds t) (judge t) e d in
+    record { answer = rw (x.is, scan_from) (ap Err x.same); lent = rw (x.is, scan_from) }
 
-  pub scan_judged : j.number ≡ 0 → (new : List ℤ) (r : Outcome) → ScansIn p table q j inputs old new r → ScanDid t inputs old new r
-  scan_judged z new r h = let x = acceptance t p table q j d z in h t x.program x.is x.stands
+pub scan_judged : (t p table q : List ℕ) (j : Judged) → Gives (Stands t p table q) (judge t) (Ok j) → (inputs old new : List ℤ) (r : Outcome)
+    → ScansIn p table q j inputs old new r → ScanDid t inputs old new r
+scan_judged t p table q j d inputs old new r h = let x = acceptance t p table q j d in h t x.program x.is x.stands

@@ -8,9 +8,10 @@ use native.Mathlib.Omega.{arith}
 use borrow.Author.Tests.{not-true}
 use lib.Dec.{leb}
 use lib.ListN.{length, take}
-use Rattle.paper.specs.declared.Why.{Why}
+use Rattle.std.specs.Prelude.{Result, Ok, Err}
+use Rattle.paper.specs.declared.Refusal.{Refusal}
 use Rattle.paper.specs.declared.Why.TheVariants.{NoRoom}
-use Rattle.paper.specs.Refusals.{Answer, refused, given, ◌>>=◌}
+use Rattle.paper.specs.Refusals.{Answer, refused, given, refusal, Gives, ◌>>=◌}
 use Rattle.paper.specs.Names.{cells_of, variables_of}
 use Rattle.paper.specs.Tables.{Lent, infos_of, lent_of, table_of}
 use Rattle.paper.specs.Judge.{Sound, judge, over, table_of_sound, table_into}
@@ -22,16 +23,16 @@ use Rattle.demands.proofs.Accepted.{accepted}
 use Rattle.demands.proofs.Theorem.{walk_means}
 use Rattle.demands.proofs.Rows.{table_few}
 use Rattle.judge.specs.declared.Judged.{Judged}
-use Rattle.judge.specs.Judged.{JudgedAs}
-use Rattle.lent.specs.Outcomes.{left}
+use Rattle.judge.specs.Judged.{Stands}
+use Rattle.kaldvimur.specs.Arrays.{Holds}
+use Rattle.lent.specs.Outcomes.{outcome, left}
 use Rattle.lent.proofs.Checking.{test, no_room, has_room, have_room}
-use Rattle.kaldvimur.specs.declared.tables.Tabled.{Tabled}
-use Rattle.kaldvimur.specs.declared.tables.Tabled.TheVariants.{Made, Refused}
-use Rattle.kaldvimur.specs.Outcomes.{IsWhy}
-use Rattle.kaldvimur.specs.Tables.{tabled, TableDid}
+use Rattle.judge.proofs.Gives.{refuses}
+use Rattle.kaldvimur.specs.declared.tables.Sizes.{Sizes}
+use Rattle.kaldvimur.specs.Tables.{sized, TableDid}
 use Rattle.kaldvimur.specs.Writing.{Writable, Writes}
 use Rattle.kaldvimur.proofs.Starting.{own_cells}
-use Rattle.kaldvimur.proofs.Answers.{lies, refusal, acceptance}
+use Rattle.kaldvimur.proofs.Answers.{lies, acceptance}
 
 -- ---- an accepted program's cells and rows
 
@@ -81,60 +82,57 @@ module _ (t oldRows oldCells : List ℕ) where
   unfolding table_into
   into_is = refl
 
-  did : (x : Answer Lent) → table_into t oldRows oldCells ≡ x → (newRows newCells : List ℕ) (r : Tabled) → r ≡ tabled x
+  did : (x : Answer Lent) → table_into t oldRows oldCells ≡ x → (newRows newCells : List ℕ) (r : Result Sizes Refusal)
+      → r ≡ outcome (λ x. sized x.row_count x.cell_count) x
       → newRows ≡ left oldRows (x >>= λ x. given x.rows)
       → newCells ≡ left oldCells (x >>= λ x. given x.cells)
       → TableDid t oldRows oldCells newRows newCells r
   did x e newRows newCells r a m n =
       record {
-        answer = a ∙ ap tabled (sym e);
+        answer = a ∙ ap (outcome (λ (x : Lent). sized x.row_count x.cell_count)) (sym e);
         rows = m ∙ ap (λ (y : Answer Lent). left oldRows (y >>= λ x. given x.rows)) (sym e);
         cells = n ∙ ap (λ (y : Answer Lent). left oldCells (y >>= λ x. given x.cells)) (sym e);
       }
 
-pub light : (t p table q : List ℕ) (j : Judged) → JudgedAs t p table q (judge t) j → j.number ≡ 0 → (j.weight ≤ 3000) × (j.cells ≤ 64)
-light t p table q j d z = let s = (acceptance t p table q j d z).stands in (s.light, s.few)
+pub table_refused : (t : List ℕ) (e : Refusal) → Gives (Holds t) (judge t) (Err e)
+    → (oldRows oldCells : List ℕ) → TableDid t oldRows oldCells oldRows oldCells (Err e)
+table_refused t e d oldRows oldCells =
+    let x = refuses (Holds t) (judge t) e d in
+    let no = into_is t oldRows oldCells ∙ ap (λ (o : Answer Sound). o >>= stage oldRows oldCells) x.is in
+    did t oldRows oldCells (refused x.why x.place) no oldRows oldCells (Err e) (ap Err x.same) refl refl
 
-module _ (t p table q : List ℕ) (j : Judged) (d : JudgedAs t p table q (judge t) j) (oldRows oldCells : List ℕ) where
-  pub table_refused : ¬ (j.number ≡ 0) → (r : Why) → IsWhy j.number r → TableDid t oldRows oldCells oldRows oldCells (Refused r j.place)
-  table_refused z r h =
-      let x = refusal t p table q j d z in
-      let no = into_is t oldRows oldCells ∙ ap (λ (o : Answer Sound). o >>= stage oldRows oldCells) x.is in
-      did t oldRows oldCells (refused x.why j.place) no oldRows oldCells (Refused r j.place)
-      (ap (λ (w : Why). Refused w j.place) (h x.why x.number)) refl refl
+module _ (t p table q : List ℕ) (j : Judged) (d : Gives (Stands t p table q) (judge t) (Ok j)) (oldRows oldCells : List ℕ) where
+  staged : table_into t oldRows oldCells ≡ stage oldRows oldCells (acceptance t p table q j d).program
+  staged = into_is t oldRows oldCells ∙ ap (λ (o : Answer Sound). o >>= stage oldRows oldCells) (acceptance t p table q j d).is
 
-  module _ (z : j.number ≡ 0) where
-    staged : table_into t oldRows oldCells ≡ stage oldRows oldCells (acceptance t p table q j d z).program
-    staged = into_is t oldRows oldCells ∙ ap (λ (o : Answer Sound). o >>= stage oldRows oldCells) (acceptance t p table q j d z).is
+  pub table_no_room : (b : Bool) → b ≡ leb (4 * (j.weight + j.cells)) (length oldRows) && leb j.cells (length oldCells) → not b ≡ true
+      → TableDid t oldRows oldCells oldRows oldCells (Err (refusal NoRoom 0))
+  table_no_room b h e =
+      let x = acceptance t p table q j d in
+      let a = x.program in
+      let s = x.stands in
+      let full : leb (4 * (a.weight + length a.cells)) (length oldRows) && leb (length a.cells) (length oldCells) ≡ false =
+      ap₂ (λ (w c : ℕ). leb (4 * (w + c)) (length oldRows) && leb c (length oldCells)) (sym s.weight) (sym s.cells) ∙ sym h ∙ not-true b e in
+      did t oldRows oldCells (refused NoRoom 0) (staged ∙ no_room (leb (4 * (a.weight + length a.cells)) (length oldRows)) (leb (length a.cells) (length oldCells)) (given (laid oldRows oldCells a)) full) oldRows oldCells (Err (refusal NoRoom 0)) refl refl refl
 
-    pub table_no_room : (b : Bool) → b ≡ leb (4 * (j.weight + j.cells)) (length oldRows) && leb j.cells (length oldCells) → not b ≡ true
-        → TableDid t oldRows oldCells oldRows oldCells (Refused NoRoom 0)
-    table_no_room b h e =
-        let x = acceptance t p table q j d z in
+  module _ (b : Bool) (h : b ≡ leb (4 * (j.weight + j.cells)) (length oldRows) && leb j.cells (length oldCells)) (e : not b ≡ false) where
+    roomy : (4 * (j.weight + j.cells) ≤ length oldRows) × (j.cells ≤ length oldCells)
+    roomy = have_room oldRows oldCells (4 * (j.weight + j.cells)) j.cells b h e
+
+    pub writable : Writable p table q j oldCells
+    writable = record { lies = lies t p table q j d; few = (acceptance t p table q j d).stands.few; room = roomy.1 }
+
+    pub table_done : (newRows newCells : List ℕ) (r : ℕ) → Writes p table q j oldRows oldCells newRows newCells r
+        → TableDid t oldRows oldCells newRows newCells (Ok (sized r j.cells))
+    unfolding lent_of table_of_sound table_of
+    table_done newRows newCells r w =
+        let x = acceptance t p table q j d in
         let a = x.program in
         let s = x.stands in
-        let full : leb (4 * (a.weight + length a.cells)) (length oldRows) && leb (length a.cells) (length oldCells) ≡ false =
-        ap₂ (λ (w c : ℕ). leb (4 * (w + c)) (length oldRows) && leb c (length oldCells)) (sym s.weight) (sym s.cells) ∙ sym h ∙ not-true b e in
-        did t oldRows oldCells (refused NoRoom 0) (staged ∙ no_room (leb (4 * (a.weight + length a.cells)) (length oldRows)) (leb (length a.cells) (length oldCells)) (given (laid oldRows oldCells a)) full) oldRows oldCells (Refused NoRoom 0) refl refl refl
-
-    module _ (b : Bool) (h : b ≡ leb (4 * (j.weight + j.cells)) (length oldRows) && leb j.cells (length oldCells)) (e : not b ≡ false) where
-      roomy : (4 * (j.weight + j.cells) ≤ length oldRows) × (j.cells ≤ length oldCells)
-      roomy = have_room oldRows oldCells (4 * (j.weight + j.cells)) j.cells b h e
-
-      pub writable : Writable p table q j oldCells
-      writable = record { lies = lies t p table q j d z; few = (light t p table q j d z).1; room = roomy.1 }
-
-      pub table_done : (newRows newCells : List ℕ) (r : ℕ) → Writes p table q j oldRows oldCells newRows newCells r
-          → TableDid t oldRows oldCells newRows newCells (Made r j.cells)
-      unfolding lent_of table_of_sound table_of
-      table_done newRows newCells r w =
-          let x = acceptance t p table q j d z in
-          let a = x.program in
-          let s = x.stands in
-          let few = few_rows t a x.is in
-          let room : Room oldRows (lent_of (table_of_sound a)).row_count =
-          (omega (arith, few, s.weight, s.cells, roomy.0), omega (arith, few, s.weight, s.cells, s.light, s.few)) in
-          let done = w t a x.is s room in
-          let fits = staged ∙ has_room (4 * (a.weight + length a.cells)) (length oldRows) (length a.cells) (length oldCells) (given (laid oldRows oldCells a)) (omega (arith, s.weight, s.cells, roomy.0)) (omega (arith, s.cells, roomy.1)) in
-          did t oldRows oldCells (given (laid oldRows oldCells a)) fits newRows newCells (Made r j.cells)
-          (ap₂ Made done.count s.cells) done.rows done.cells
+        let few = few_rows t a x.is in
+        let room : Room oldRows (lent_of (table_of_sound a)).row_count =
+        (omega (arith, few, s.weight, s.cells, roomy.0), omega (arith, few, s.weight, s.cells, s.light, s.few)) in
+        let done = w t a x.is s room in
+        let fits = staged ∙ has_room (4 * (a.weight + length a.cells)) (length oldRows) (length a.cells) (length oldCells) (given (laid oldRows oldCells a)) (omega (arith, s.weight, s.cells, roomy.0)) (omega (arith, s.cells, roomy.1)) in
+        did t oldRows oldCells (given (laid oldRows oldCells a)) fits newRows newCells (Ok (sized r j.cells))
+        (ap₂ (λ (n k : ℕ). Ok (sized n k)) done.count s.cells) done.rows done.cells

@@ -1,13 +1,12 @@
 -- A run of scans by `scan` and one by `table` and `scan_table`: the states after each scan, as the functions left them.
-use Rattle.std.specs.Prelude.{◌≡◌, List, [], ◌∷◌, ℕ, ℤ}
+use Rattle.std.specs.Prelude.{◌≡◌, List, [], ◌∷◌, ℕ, ℤ, Ok}
 use Rattle.paper.specs.Tables.{Lent}
 use Rattle.paper.specs.Judge.{scan_lent, scan_checked}
-use Rattle.lent.specs.declared.Outcome.{Outcome}
+use Rattle.lent.specs.Outcomes.{Outcome}
 use Rattle.lent.specs.Tables as Table
 use Rattle.lent.specs.Tables.{lent_with}
-use Rattle.kaldvimur.specs.declared.tables.Tabled.TheVariants.{Made}
 use Rattle.kaldvimur.specs.Scans as Text
-use Rattle.kaldvimur.specs.Tables.{TableDid}
+use Rattle.kaldvimur.specs.Tables.{sized, TableDid}
 
 -- each scan from the state that the one before left; a scan that is refused leaves it as it was
 pub data Runs (D : List ℤ → List ℤ → List ℤ → Outcome → Type 0) : List (List ℤ) → List ℤ → List (List ℤ) → Type 0 where
@@ -31,5 +30,5 @@ pub record Agree (t rows cells : List ℕ) (n k : ℕ) (xs : List (List ℤ)) (s
 
 abbrev pub AgreeForAll : Type 0
 AgreeForAll =
-    (t oldRows oldCells rows cells : List ℕ) (n k : ℕ) → TableDid t oldRows oldCells rows cells (Made n k)
+    (t oldRows oldCells rows cells : List ℕ) (n k : ℕ) → TableDid t oldRows oldCells rows cells (Ok (sized n k))
     → (xs : List (List ℤ)) (s : List ℤ) → Agree t rows cells n k xs s

@@ -1,3 +1,4 @@
+pub mod Arrays
 pub mod Prints
 pub mod Outcomes
 pub mod Scans

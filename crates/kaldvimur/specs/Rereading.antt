@@ -1,13 +1,12 @@
 -- A print lent again as a text: what `accept` and `print` answer to it, by what `print` left.
-use Rattle.std.specs.Prelude.{◌≡◌, List, ℕ, ◌≤◌, length, take}
+use Rattle.std.specs.Prelude.{◌≡◌, List, ℕ, ◌≤◌, length, take, Ok}
 use Rattle.paper.specs.Judge.{verdict}
-use Rattle.lent.specs.declared.Outcome.{Outcome}
-use Rattle.lent.specs.declared.Outcome.TheVariants.{Done}
+use Rattle.lent.specs.Outcomes.{Outcome}
 use Rattle.kaldvimur.specs.Outcomes.{PrintDid}
 
 -- done with the count n, and the n bytes in front of `before` stand in front of `after` too
 pub record Repeats (before after : List ℕ) (n : ℕ) (r : Outcome) : Type 0 where
-  pub answer : r ≡ Done n
+  pub answer : r ≡ Ok n
   pub bytes : take n after ≡ take n before
 
 -- the n bytes in front of `new`, read as a text: `accept` answers to them the four numbers of t,
@@ -18,4 +17,4 @@ pub record Reread (t new : List ℕ) (n : ℕ) : Type 0 where
 
 -- for every text that `print` printed, whatever the buffer held, where the print fits the limit for a text
 abbrev pub RereadForAll : Type 0
-RereadForAll = (t old new : List ℕ) (n : ℕ) → PrintDid t old new (Done n) → n ≤ 8192 → Reread t new n
+RereadForAll = (t old new : List ℕ) (n : ℕ) → PrintDid t old new (Ok n) → n ≤ 8192 → Reread t new n

@@ -6,7 +6,7 @@ use Rattle.paper.specs.Judge.{lent, over}
 use Rattle.cells.specs.Numbers.{read_in}
 use Rattle.run.specs.Parts.{ran_from}
 use Rattle.judge.specs.declared.Judged.{Judged}
-use Rattle.lent.specs.declared.Outcome.{Outcome}
+use Rattle.lent.specs.Outcomes.{Outcome}
 use Rattle.kaldvimur.specs.Prints.{Of}
 use Rattle.kaldvimur.specs.Scans.{ScanDid}
 

@@ -8,10 +8,11 @@ use native.Mathlib.Omega.{arith}
 use lib.Dec.{leb}
 use lib.IntN.{ℤ}
 use lib.ListN.{length}
+use Rattle.std.specs.Prelude.{Result, Ok, Err}
 use Rattle.paper.specs.declared.Why.{Why}
 use Rattle.paper.specs.declared.Why.TheVariants.{NoRoom, BadTable, BadValue}
-use Rattle.paper.specs.declared.Verdict.{Verdict}
-use Rattle.paper.specs.declared.Verdict.TheVariants.{Accepted, Refused}
+use Rattle.paper.specs.declared.Accepted.{Accepted}
+use Rattle.paper.specs.declared.Refusal.{Refusal}
 use Rattle.paper.specs.Refusals.{Answer, refused, given, ◌>>=◌}
 use Rattle.paper.specs.Plain.{figure}
 use Rattle.paper.specs.Tables.{Table, Lent, table_of, lent_of, table_in}
@@ -51,14 +52,14 @@ value {Q = Q} {x = x} h e = given_at x (subst (Answers Low Q) e h)
 -- ---- a text
 
 -- the four numbers of acceptance
-pub record Numbers (c w f l : ℕ) : Type 0 where
-  pub cells : c ≤ 64
-  pub weight : w ≤ 3000
-  pub figure : f ≤ 3000
-  pub length : l ≤ 2000000
+pub record Numbers (a : Accepted) : Type 0 where
+  pub cells : a.cells ≤ 64
+  pub weight : a.weight ≤ 3000
+  pub figure : a.figure ≤ 3000
+  pub length : a.length ≤ 2000000
 
 pub record Small (a : Sound) : Type 0 where
-  pub numbers : Numbers (length a.cells) a.weight (figure a.plain) (length (print_of a))
+  pub numbers : Numbers (J.accepted a)
   pub rows : (lent_of (table_of_sound a)).row_count ≤ 3064
 
 light : (t : List ℕ) (a : Sound) → judge t ≡ given a → (length a.cells ≤ 64) × (a.weight ≤ 3000)
@@ -80,11 +81,11 @@ judged t = go (judge t) refl
         })
 
 -- of a verdict
-abbrev Told : Verdict → Type 0
-Told (Refused w p) = Low p
-Told (Accepted c w f l) = Numbers c w f l
+abbrev Told : Result Accepted Refusal → Type 0
+Told (Err e) = Low e.place
+Told (Ok a) = Numbers a
 
-pub verdict_told : (t : List ℕ) {v : Verdict} → verdict t ≡ v → Told v
+pub verdict_told : (t : List ℕ) {v : Result Accepted Refusal} → verdict t ≡ v → Told v
 unfolding verdict
 verdict_told t e = subst Told e (go (judged t))
   where

@@ -1,8 +1,8 @@
 -- What C finds in a lent buffer beside the answer: the numbers of acceptance, the steps, the counts of a table.
-use Rattle.std.specs.Prelude.{List, [], ◌∷◌, ℕ, ℤ}
+use Rattle.std.specs.Prelude.{List, [], ◌∷◌, ℕ, ℤ, Result, Ok, Err}
 use Rattle.paper.specs.declared.Why.TheVariants.{NoRoom}
-use Rattle.paper.specs.declared.Verdict.{Verdict}
-use Rattle.paper.specs.declared.Verdict.TheVariants.{Accepted, Refused}
+use Rattle.paper.specs.declared.Accepted.{Accepted}
+use Rattle.paper.specs.declared.Refusal.{Refusal}
 use Rattle.paper.specs.Refusals.{Answer, refused, given, ◌>>=◌}
 use Rattle.paper.specs.Judge.{judge, verdict, room, over, scan_from, table_into}
 
@@ -16,9 +16,9 @@ too_short text = judge text >>= λ a. refused NoRoom 0
 
 -- ---- what is lent, after each
 
-abbrev pub numbers_of : Verdict → List ℕ
-numbers_of (Refused w p) = []
-numbers_of (Accepted cells weight figure length) = cells ∷ weight ∷ figure ∷ length ∷ []
+abbrev pub numbers_of : Result Accepted Refusal → List ℕ
+numbers_of (Err e) = []
+numbers_of (Ok a) = a.cells ∷ a.weight ∷ a.figure ∷ a.length ∷ []
 
 unfoldable pub accept_into : List ℕ → List ℕ → Answer (List ℕ)
 accept_into text four = counting text 4 four (given (over (numbers_of (verdict text)) four))

@@ -9,17 +9,17 @@ ghost use Rattle.kaldvimur_c.specs.Codes.{code_of, answered, Near, told, Did};
 ghost use Rattle.kaldvimur_c.specs.Lending.{too_short, accept_into, scan_into, table_with};
 
 use kaldvimur::Outcome;
-use kaldvimur::tables::Tabled;
-use paper::{Verdict, Why, number};
+use lent::refused;
+use paper::{Refusal, Why};
 
 // ---- an answer in one number
 
 // A place below 65536 leaves the number as it is.
-fn code(why: Why, place: usize) -> u32
-    requires { place < 65536 }
-    ensures { result ≡ code_of why place }
+fn code(refusal: Refusal) -> u32
+    requires { refusal.place < 65536 }
+    ensures { result ≡ code_of refusal.why refusal.place }
 {
-    number(why) as u32 * 65536 + place as u32
+    u8::from(refusal.why) as u32 * 65536 + refusal.place as u32
 }
 
 // What a function counts is no part of its answer.
@@ -28,8 +28,8 @@ fn answer(o: Outcome) -> u32
     ensures { result ≡ told o }
 {
     match o {
-        Outcome::Done(_) => 0,
-        Outcome::Refused { why, place } => code(why, place),
+        Ok(_) => 0,
+        Err(refusal) => code(refusal),
     }
 }
 
@@ -37,11 +37,10 @@ fn answer(o: Outcome) -> u32
 fn no_room(text: &[u8]) -> u32
     ensures { result ≡ answered (too_short text.now) }
 {
-    let verdict = kaldvimur::accept(text);
-    if let Verdict::Refused { why, place } = verdict {
-        return code(why, place);
+    if let Err(refusal) = kaldvimur::accept(text) {
+        return code(refusal);
     }
-    code(Why::NoRoom, 0)
+    code(refused(Why::NoRoom))
 }
 
 // ---- a text
@@ -55,17 +54,12 @@ pub extern "C" fn kv_accept(text: &[u8], four: &mut [u32]) -> u32
         return no_room(text);
     }
     match kaldvimur::accept(text) {
-        Verdict::Refused { why, place } => code(why, place),
-        Verdict::Accepted {
-            cells,
-            weight,
-            figure,
-            length,
-        } => {
-            four[0] = cells as u32;
-            four[1] = weight as u32;
-            four[2] = figure as u32;
-            four[3] = length as u32;
+        Err(refusal) => code(refusal),
+        Ok(numbers) => {
+            four[0] = numbers.cells as u32;
+            four[1] = numbers.weight as u32;
+            four[2] = numbers.figure as u32;
+            four[3] = numbers.length as u32;
             0
         }
     }
@@ -96,8 +90,8 @@ pub extern "C" fn kv_scan(text: &[u8], state: &mut [i64], inputs: &[i64], steps:
         return no_room(text);
     }
     match kaldvimur::states::scan(text, state, inputs) {
-        Outcome::Refused { why, place } => code(why, place),
-        Outcome::Done(n) => {
+        Err(refusal) => code(refusal),
+        Ok(n) => {
             steps[0] = n as u32;
             0
         }
@@ -113,10 +107,10 @@ pub extern "C" fn kv_table(text: &[u8], rows: &mut [u32], cells: &mut [u32], two
         return no_room(text);
     }
     match kaldvimur::tables::table(text, rows, cells) {
-        Tabled::Refused { why, place } => code(why, place),
-        Tabled::Made { rows: n, cells: k } => {
-            two[0] = n as u32;
-            two[1] = k as u32;
+        Err(refusal) => code(refusal),
+        Ok(sizes) => {
+            two[0] = sizes.rows as u32;
+            two[1] = sizes.cells as u32;
             0
         }
     }

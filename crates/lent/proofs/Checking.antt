@@ -10,15 +10,14 @@ use lib.Dec.{leb}
 use lib.IntN.{ℤ}
 use lib.ListN.{length, take}
 use lib.Seq.{length-take-le}
+use Rattle.std.specs.Prelude.{Ok, Err}
 use Rattle.paper.specs.declared.Why.TheVariants.{NoRoom, BadTable}
-use Rattle.paper.specs.Refusals.{Answer, refused, given, ◌>>=◌}
+use Rattle.paper.specs.Refusals.{Answer, refused, given, refusal, ◌>>=◌}
 use Rattle.paper.specs.Tables.{Table, Lent, table_in, total_in}
 use Rattle.paper.specs.Judge.{room_for, ruled, scan_by, scan_lent, check_lent, scan_checked}
 use Rattle.rows.specs.Lent.{lent, Answers}
 use Rattle.rows.proofs.Total.{table_front}
-use Rattle.lent.specs.declared.Outcome.{Outcome}
-use Rattle.lent.specs.declared.Outcome.TheVariants.{Done, Refused}
-use Rattle.lent.specs.Outcomes.{outcome, left}
+use Rattle.lent.specs.Outcomes.{Outcome, outcome, left}
 use Rattle.lent.specs.Tables.{lent_with, CheckDid, ScanDid}
 use Rattle.lent.specs.Totals.{Scannable, Scans}
 use Rattle.lent.proofs.Totals.{few}
@@ -69,11 +68,11 @@ abbrev as_table : Option Table → Answer Table
 as_table o = elim o [ none ↦ refused BadTable 0 | some u ↦ given u ]
 
 module _ (rs cs : List ℕ) (n k : ℕ) where
-  pub check_no_room : (b : Bool) → b ≡ leb (4 * n) (length rs) && leb k (length cs) → not b ≡ true → (r : Outcome) → r ≡ Refused NoRoom 0
+  pub check_no_room : (b : Bool) → b ≡ leb (4 * n) (length rs) && leb k (length cs) → not b ≡ true → (r : Outcome) → r ≡ Err (refusal NoRoom 0)
       → CheckDid (lent_with rs cs n k) r
   unfolding check_lent
   check_no_room b h e r is =
-      is ∙ ap (outcome k) (sym (no_room (leb (4 * n) (length rs)) (leb k (length cs)) (ruled (lent_with rs cs n k) >>= λ u. given (tt {0})) (sym h ∙ not-true b e)))
+      is ∙ ap (outcome (λ _. k)) (sym (no_room (leb (4 * n) (length rs)) (leb k (length cs)) (ruled (lent_with rs cs n k) >>= λ u. given (tt {0})) (sym h ∙ not-true b e)))
 
   module _ (h : (4 * n ≤ length rs) × (k ≤ length cs)) where
     checked : check_lent (lent_with rs cs n k) ≡ (ruled (lent_with rs cs n k) >>= λ u. given (tt {0}))
@@ -81,24 +80,24 @@ module _ (rs cs : List ℕ) (n k : ℕ) where
     checked = has_room (4 * n) (length rs) k (length cs) (ruled (lent_with rs cs n k) >>= λ u. given (tt {0})) h.0 h.1
 
     outcome_is : (o : Option Table) → table_in (lent rs (take k cs) n) ≡ o
-        → outcome k (check_lent (lent_with rs cs n k)) ≡ elim o [ none ↦ Refused BadTable 0 | some u ↦ Done k ]
+        → outcome (λ _. k) (check_lent (lent_with rs cs n k)) ≡ elim o [ none ↦ Err (refusal BadTable 0) | some u ↦ Ok k ]
     outcome_is o e =
-        ap (outcome k) checked
-        ∙ ap (λ (x : Option Table). outcome k (as_table x >>= λ u. given (tt {0}))) (table_front rs cs n k h.1 ∙ e)
+        ap (outcome (λ _. k)) checked
+        ∙ ap (λ (x : Option Table). outcome (λ _. k) (as_table x >>= λ u. given (tt {0}))) (table_front rs cs n k h.1 ∙ e)
         ∙ go o
       where
-        go : (o : Option Table) → outcome k (as_table o >>= λ u. given (tt {0})) ≡ elim o [ none ↦ Refused BadTable 0 | some u ↦ Done k ]
+        go : (o : Option Table) → outcome (λ _. k) (as_table o >>= λ u. given (tt {0})) ≡ elim o [ none ↦ Err (refusal BadTable 0) | some u ↦ Ok k ]
         go none = refl
         go (some u) = refl
 
     -- the cells that count do not keep rule 11
-    pub check_broken : (b : Bool) → Answers (table_in (lent rs (take k cs) n)) b → not b ≡ true → (r : Outcome) → r ≡ Refused BadTable 0
+    pub check_broken : (b : Bool) → Answers (table_in (lent rs (take k cs) n)) b → not b ≡ true → (r : Outcome) → r ≡ Err (refusal BadTable 0)
         → CheckDid (lent_with rs cs n k) r
     check_broken true a e r is = absurd (true_false (sym e))
     check_broken false a e r is = is ∙ sym (outcome_is none a)
 
     -- or they do
-    pub check_kept : (b : Bool) → Answers (table_in (lent rs (take k cs) n)) b → not b ≡ false → CheckDid (lent_with rs cs n k) (Done k)
+    pub check_kept : (b : Bool) → Answers (table_in (lent rs (take k cs) n)) b → not b ≡ false → CheckDid (lent_with rs cs n k) (Ok k)
     check_kept false a e = absurd (true_false e)
     check_kept true (u, a) e = sym (outcome_is (some u) a)
 
@@ -128,14 +127,14 @@ module _ (by : Lent → List ℤ → List ℤ → Answer (List ℤ)) (read : Len
   abbrev t : Lent
   t = lent_with rs cs n k
 
-  answers : (x : Answer (List ℤ)) → by t old inputs ≡ x → (new : List ℤ) (r : Outcome) → r ≡ outcome k x → new ≡ left old x → ScanDid by t inputs old new r
-  answers x e new r a l = record { answer = a ∙ ap (outcome k) (sym e); lent = l ∙ ap (left old) (sym e) }
+  answers : (x : Answer (List ℤ)) → by t old inputs ≡ x → (new : List ℤ) (r : Outcome) → r ≡ outcome (λ _. k) x → new ≡ left old x → ScanDid by t inputs old new r
+  answers x e new r a l = record { answer = a ∙ ap (outcome (λ _. k)) (sym e); lent = l ∙ ap (left old) (sym e) }
 
   behind : (x : Answer (Unit {0})) → room_for t old inputs ≡ x → by t old inputs ≡ (x >>= λ fit. asked old inputs (read t))
   behind x e = reads t old inputs ∙ ap (λ (y : Answer (Unit {0})). y >>= λ fit. asked old inputs (read t)) e
 
   -- no room in the table's own buffers
-  pub scan_no_room : (b : Bool) → b ≡ leb (4 * n) (length rs) && leb k (length cs) → not b ≡ true → (r : Outcome) → r ≡ Refused NoRoom 0
+  pub scan_no_room : (b : Bool) → b ≡ leb (4 * n) (length rs) && leb k (length cs) → not b ≡ true → (r : Outcome) → r ≡ Err (refusal NoRoom 0)
       → ScanDid by t inputs old old r
   scan_no_room b h e r is =
       let none : room_for t old inputs ≡ refused NoRoom 0 =
@@ -149,7 +148,7 @@ module _ (by : Lent → List ℤ → List ℤ → Answer (List ℤ)) (read : Len
         ∙ ap (λ (x : Answer (Unit {0})). test (leb k (length old)) >>= λ _. x) (ends (leb k (length inputs)))
 
     -- none in the state or the inputs
-    pub scan_no_values : (b : Bool) → b ≡ leb k (length old) && leb k (length inputs) → not b ≡ true → (r : Outcome) → r ≡ Refused NoRoom 0
+    pub scan_no_values : (b : Bool) → b ≡ leb k (length old) && leb k (length inputs) → not b ≡ true → (r : Outcome) → r ≡ Err (refusal NoRoom 0)
         → ScanDid by t inputs old old r
     scan_no_values b g e r is =
         let none : room_for t old inputs ≡ refused NoRoom 0 = lies ∙ no_room (leb k (length old)) (leb k (length inputs)) (given tt) (sym g ∙ not-true b e) in
@@ -162,7 +161,7 @@ module _ (by : Lent → List ℤ → List ℤ → Answer (List ℤ)) (read : Len
           ∙ ap (λ (y : Option Table). asked old inputs y) (front ∙ e)
 
       -- no table can be read
-      pub scan_broken : (b : Bool) → Answers (read (lent rs (take k cs) n)) b → not b ≡ true → (r : Outcome) → r ≡ Refused BadTable 0
+      pub scan_broken : (b : Bool) → Answers (read (lent rs (take k cs) n)) b → not b ≡ true → (r : Outcome) → r ≡ Err (refusal BadTable 0)
           → ScanDid by t inputs old old r
       scan_broken true a e r is = absurd (true_false (sym e))
       scan_broken false a e r is = answers (refused BadTable 0) (asks none a) old r is refl
@@ -175,7 +174,7 @@ module _ (by : Lent → List ℤ → List ℤ → Answer (List ℤ)) (read : Len
       scan_goes true (u, s) e whole new r d =
           let did = d u (whole u s) in
           let count : length (take k cs) ≡ k = length-take-le k cs h.1 in
-          answers (scan_by u old inputs) (asks (some u) s) new r (did.answer ∙ ap (λ m. outcome m (scan_by u old inputs)) count) did.lent
+          answers (scan_by u old inputs) (asks (some u) s) new r (did.answer ∙ ap (λ m. outcome (λ _. m) (scan_by u old inputs)) count) did.lent
 
 -- ---- what a scan may count on
 

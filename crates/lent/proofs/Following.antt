@@ -8,15 +8,16 @@ use borrow.Author.Tests.{not-true, not-false}
 use lib.IntN.{ℤ}
 use lib.ListN.{length, take, drop, length-map, drop_of_length-le}
 use lib.Seq.{take_at}
+use Rattle.std.specs.Prelude.{Ok, Err}
 use Rattle.paper.specs.declared.Why.TheVariants.{BadValue}
+use Rattle.paper.specs.Refusals.{refusal}
 use Rattle.paper.specs.Tables.{run_table}
 use Rattle.paper.specs.Judge.{all_fit, lent as lent_as, over, scan_table}
 use Rattle.cells.specs.Numbers.{Says, read_in, info_of}
 use Rattle.cells.proofs.Infos.{infos_map}
 use Rattle.cells.proofs.Values.{length_read}
 use Rattle.rows.proofs.Total.{ran}
-use Rattle.lent.specs.declared.Outcome.{Outcome}
-use Rattle.lent.specs.declared.Outcome.TheVariants.{Done, Refused}
+use Rattle.lent.specs.Outcomes.{Outcome}
 use Rattle.lent.specs.Totals.{Runs, Follows, Scans}
 use Rattle.lent.proofs.Totals.{known}
 
@@ -37,7 +38,7 @@ module _ (rs cs : List ℕ) (n : ℕ) (inputs old : List ℤ) where
       let at : start ≡ read_in is old inputs = h is k ∙ rw rest (append-nil (read_in is old inputs)) in
       ran rs cs n u start end e next ∙ ap (run_table u) at
 
-  pub scan_unfit : (b : Bool) → Says cs (λ is. b ≡ all_fit is old inputs) → not b ≡ true → (r : Outcome) → r ≡ Refused BadValue 0
+  pub scan_unfit : (b : Bool) → Says cs (λ is. b ≡ all_fit is old inputs) → not b ≡ true → (r : Outcome) → r ≡ Err (refusal BadValue 0)
       → Scans rs cs n inputs old old r
   scan_unfit b h e r is u k =
       let no : all_fit u.cells old inputs ≡ false = sym (h u.cells (known rs cs n u k)) ∙ not-true b e in
@@ -47,7 +48,7 @@ module _ (rs cs : List ℕ) (n : ℕ) (inputs old : List ℤ) where
   pub scan_done : (b : Bool) → Says cs (λ is. b ≡ all_fit is old inputs) → not b ≡ false
       → (vs rest : List ℕ) → length vs ≡ length cs → Follows rs cs n inputs old vs
       → (new : List ℤ) → Says cs (λ is. new ≡ over (lent_as is (take (length cs) (vs ++ rest))) old)
-      → Scans rs cs n inputs old new (Done (length cs))
+      → Scans rs cs n inputs old new (Ok (length cs))
   scan_done b h e vs rest m f new l u k =
       let c = known rs cs n u k in
       let yes : all_fit u.cells old inputs ≡ true = sym (h u.cells c) ∙ not-false b e in

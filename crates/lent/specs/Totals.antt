@@ -4,7 +4,7 @@ use Rattle.std.proofs.Math.Option.{some}
 use Rattle.paper.specs.Tables.{Table, lines_in, values, total_in}
 use Rattle.paper.specs.Judge.{held, scan_table, scan_by}
 use Rattle.rows.specs.Lent.{lent, Answers, IsNext}
-use Rattle.lent.specs.declared.Outcome.{Outcome}
+use Rattle.lent.specs.Outcomes.{Outcome}
 use Rattle.lent.specs.Tables.{ScanDid}
 
 -- whether n rows and these cells have a total reading, whatever the rows

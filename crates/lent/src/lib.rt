@@ -2,30 +2,26 @@
 // as it was.
 #![tactic(auto)]
 
-ghost use Rattle.std.specs.Prelude.{◌≡◌, ◌&&◌, ◌*◌, leb, length};
+ghost use Rattle.std.specs.Prelude.{◌≡◌, ◌&&◌, ◌*◌, ◌≤◌, leb, length};
+ghost use Rattle.paper.specs.Refusals.{refusal};
 ghost use Rattle.paper.specs.Judge.{scan_lent, scan_checked};
-ghost use Rattle.lent.specs.declared.Outcome.TheVariants.{Refused};
 ghost use Rattle.lent.specs.Tables.{CheckDid, ScanDid, lent_with};
 ghost use Rattle.lent.specs.Totals.{Readable, Runnable, Runs, Scannable, Follows, Scans};
 
 use cells::{fit, hold, lend};
-use paper::Why;
+use paper::{Refusal, Why};
 use rows::{cells_known, next_state, run_rows, table_keeps};
 
-// Done, with what the function counts; or why not, and a place in the text, if there is one.
-#[derive(Clone, Copy)]
-pub enum Outcome {
-    Done(usize),
-    Refused { why: Why, place: usize },
-}
+// Done, with what the function counts; or the refusal.
+pub type Outcome = Result<usize, Refusal>;
 
 // ---- refusals 10 to 12
 
 // A refusal that no place in a text has.
-fn refused(why: Why) -> Outcome
-    ensures { result ≡ Refused why 0 }
+pub fn refused(why: Why) -> Refusal
+    ensures { result ≡ refusal why 0 }
 {
-    Outcome::Refused { why, place: 0 }
+    Refusal { why, place: 0 }
 }
 
 // Whether the buffers of a table hold as many rows and cells as it counts.
@@ -42,12 +38,12 @@ pub fn check_table(rows: &[u32], cells: &[u32], n_rows: usize, n_cells: usize) -
     ensures { CheckDid (lent_with rows.now cells.now n_rows n_cells) result }
 {
     if !has_room(rows, cells, n_rows, n_cells) {
-        return refused(Why::NoRoom);
+        return Err(refused(Why::NoRoom));
     }
     if !table_keeps(rows, &cells[..n_cells], n_rows) {
-        return refused(Why::BadTable);
+        return Err(refused(Why::BadTable));
     }
-    Outcome::Done(n_cells)
+    Ok(n_cells)
 }
 
 // ---- a scan
@@ -81,6 +77,15 @@ fn run_table(rows: &[u32], cells: &[u32], n: usize, held: &mut [u32], vals: &mut
     next_state(cells, &vals[..n], held);
 }
 
+// The same with an array of N values.
+fn run_in<const N: usize>(rows: &[u32], cells: &[u32], n: usize, held: &mut [u32])
+    requires { (n ≤ N) × (N ≤ 3064) × (4 * n ≤ length rows.now) × (length cells.now ≡ length held.old) }
+    ensures { Runs rows.now cells.now n held.old held.new }
+{
+    let mut vals = [0u32; N];
+    run_table(rows, cells, n, held, &mut vals);
+}
+
 // What the cells hold after a scan by the total reading of a table of n rows. Fewer rows have a shorter array for their values,
 // since it takes time to clear one.
 fn follow(rows: &[u32], cells: &[u32], n: usize, state: &[i64], inputs: &[i64], held: &mut [u32])
@@ -89,17 +94,12 @@ fn follow(rows: &[u32], cells: &[u32], n: usize, state: &[i64], inputs: &[i64], 
 {
     hold(cells, state, inputs, held);
     if n <= 64 {
-        let mut few = [0u32; 64];
-        run_table(rows, cells, n, held, &mut few);
-        return;
+        run_in::<64>(rows, cells, n, held);
+    } else if n <= 512 {
+        run_in::<512>(rows, cells, n, held);
+    } else {
+        run_in::<3064>(rows, cells, n, held);
     }
-    if n <= 512 {
-        let mut some = [0u32; 512];
-        run_table(rows, cells, n, held, &mut some);
-        return;
-    }
-    let mut vals = [0u32; 3064];
-    run_table(rows, cells, n, held, &mut vals);
 }
 
 // A scan by the total reading: 12, or the state that follows, in one pass over the rows.
@@ -108,13 +108,13 @@ fn scan_by(rows: &[u32], cells: &[u32], n: usize, state: &mut [i64], inputs: &[i
     ensures { Scans rows.now cells.now n inputs.now state.old state.new result }
 {
     if !fit(cells, state, inputs) {
-        return refused(Why::BadValue);
+        return Err(refused(Why::BadValue));
     }
     let count = cells.len();
     let mut held = [0u32; 64];
     follow(rows, cells, n, state, inputs, &mut held[..count]);
     lend(cells, &held[..count], state);
-    Outcome::Done(count)
+    Ok(count)
 }
 
 // A scan from a lent table, which is tested by rule 11 before; the number of its cells.
@@ -129,13 +129,13 @@ pub fn scan_table(
     ensures { ScanDid scan_lent (lent_with rows.now cells.now n_rows n_cells) inputs.now state.old state.new result }
 {
     if !has_room(rows, cells, n_rows, n_cells) {
-        return refused(Why::NoRoom);
+        return Err(refused(Why::NoRoom));
     }
     if !has_values(state, inputs, n_cells) {
-        return refused(Why::NoRoom);
+        return Err(refused(Why::NoRoom));
     }
     if !table_keeps(rows, &cells[..n_cells], n_rows) {
-        return refused(Why::BadTable);
+        return Err(refused(Why::BadTable));
     }
     scan_by(rows, &cells[..n_cells], n_rows, state, inputs)
 }
@@ -152,13 +152,13 @@ pub fn scan_checked(
     ensures { ScanDid scan_checked (lent_with rows.now cells.now n_rows n_cells) inputs.now state.old state.new result }
 {
     if !has_room(rows, cells, n_rows, n_cells) {
-        return refused(Why::NoRoom);
+        return Err(refused(Why::NoRoom));
     }
     if !has_values(state, inputs, n_cells) {
-        return refused(Why::NoRoom);
+        return Err(refused(Why::NoRoom));
     }
     if !is_readable(&cells[..n_cells], n_rows) {
-        return refused(Why::BadTable);
+        return Err(refused(Why::BadTable));
     }
     scan_by(rows, &cells[..n_cells], n_rows, state, inputs)
 }

@@ -1,11 +1,8 @@
 -- `judge::ruled` meets its contract: the shape, then the rules.
-use Rattle.judge.proofs.Shaping.{well_shaped, fits}
+use Rattle.judge.proofs.Shaping.{by_rules, fits}
 use Rattle.judge.proofs.ruled.Goals as goal
 
 pub returns : goal.returns
 returns c =
-    let s = c.shape_of-s in
-    let r = c.rules in
-    let pre = c.requires in
-    let h = c.if-s-ne0.false in
-    well_shaped _ _ s.result s.ensures h _ r.result (r.ensures (fits _ _ s.result s.ensures h _ _ _ pre))
+    let d = c.in_ok-root.ensures in
+    by_rules _ _ _ d _ _ (c.rules.ensures (fits _ _ _ d _ _ _ c.requires))

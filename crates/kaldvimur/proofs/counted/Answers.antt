@@ -5,4 +5,4 @@ use Rattle.kaldvimur.proofs.counted.Goals as goal
 pub returns : goal.returns
 returns c =
     let A = c.args in
-    counts A.text.now A.pool.now A.table.now A.plain.now A.j _ _ _ c.printed.ensures
+    counts A.text.now A.program.pool.now A.program.table.now A.program.plain.now A.program.judged _ _ _ c.printed.ensures

@@ -11,28 +11,28 @@ returns-then-four-lt4 c =
 
 pub code-requires : goal.code-requires
 code-requires c =
-    verdict_told _ (sym c.accept.ensures ∙ c.in-Refused.is)
+    verdict_told _ (sym c.accept.ensures ∙ c.in-Err.is)
 
 pub overflow_cast-four : goal.overflow_cast-four
 overflow_cast-four c =
-    omega (arith, (verdict_told _ (sym c.accept.ensures ∙ c.in-Accepted.is)).cells)
+    omega (arith, (verdict_told _ (sym c.accept.ensures ∙ c.in-Ok.is)).cells)
 
-pub overflow_cast-four-in-Accepted : goal.overflow_cast-four-in-Accepted
-overflow_cast-four-in-Accepted c =
-    omega (arith, (verdict_told _ (sym c.accept.ensures ∙ c.in-Accepted.is)).weight)
+pub overflow_cast-four-in-Ok : goal.overflow_cast-four-in-Ok
+overflow_cast-four-in-Ok c =
+    omega (arith, (verdict_told _ (sym c.accept.ensures ∙ c.in-Ok.is)).weight)
 
-pub overflow_cast-four-in-Accepted-2 : goal.overflow_cast-four-in-Accepted-2
-overflow_cast-four-in-Accepted-2 c =
-    omega (arith, (verdict_told _ (sym c.accept.ensures ∙ c.in-Accepted.is)).figure)
+pub overflow_cast-four-in-Ok-2 : goal.overflow_cast-four-in-Ok-2
+overflow_cast-four-in-Ok-2 c =
+    omega (arith, (verdict_told _ (sym c.accept.ensures ∙ c.in-Ok.is)).figure)
 
-pub overflow_cast-four-in-Accepted-3 : goal.overflow_cast-four-in-Accepted-3
-overflow_cast-four-in-Accepted-3 c =
-    omega (arith, (verdict_told _ (sym c.accept.ensures ∙ c.in-Accepted.is)).length)
+pub overflow_cast-four-in-Ok-3 : goal.overflow_cast-four-in-Ok-3
+overflow_cast-four-in-Ok-3 c =
+    omega (arith, (verdict_told _ (sym c.accept.ensures ∙ c.in-Ok.is)).length)
 
-pub returns-in-Refused : goal.returns-in-Refused
-returns-in-Refused c =
-    accept_refused _ _ (omega arith) (sym c.accept.ensures ∙ c.in-Refused.is) _ c.code.ensures
+pub returns-in-Err : goal.returns-in-Err
+returns-in-Err c =
+    accept_refused _ _ (omega arith) (sym c.accept.ensures ∙ c.in-Err.is) _ c.code.ensures
 
-pub returns-in-Accepted : goal.returns-in-Accepted
-returns-in-Accepted c =
-    accept_given _ _ (omega arith) (sym c.accept.ensures ∙ c.in-Accepted.is)
+pub returns-in-Ok : goal.returns-in-Ok
+returns-in-Ok c =
+    accept_given _ _ (omega arith) (sym c.accept.ensures ∙ c.in-Ok.is)

@@ -1,7 +1,9 @@
 -- `kaldvimur_c::kv_table` meets its contract.
+use mathlib.Core.Path.{sym, ap, ◌∙◌}
 use native.Mathlib.Omega.{arith}
 use Rattle.kaldvimur_c.proofs.Bounds.{place, value, tabled}
-use Rattle.kaldvimur_c.proofs.Answers as A
+use Rattle.kaldvimur_c.proofs.Answers.{was_refused, was_given}
+use Rattle.kaldvimur.specs.declared.tables.Sizes.{Sizes}
 use Rattle.kaldvimur_c.proofs.Counting.{table_short, table_refused, table_made}
 use Rattle.kaldvimur_c.proofs.kv_table.Goals as goal
 
@@ -11,20 +13,20 @@ returns-then-two-lt2 c =
 
 pub code-requires : goal.code-requires
 code-requires c =
-    place (tabled _ _ _) (A.table_refused c.table.ensures c.in-Refused.is)
+    place (tabled _ _ _) (was_refused _ _ (sym c.table.ensures.answer ∙ c.in-Err.is))
 
 pub overflow_cast-two : goal.overflow_cast-two
 overflow_cast-two c =
-    let (q, e, i, j) = A.table_made c.table.ensures c.in-Made.is in omega (arith, i, (value (tabled _ _ _) e).0)
+    let (q, e, s) = was_given _ _ (sym c.table.ensures.answer ∙ c.in-Ok.is) in omega (arith, ap (λ (z : Sizes). z.rows) s, (value (tabled _ _ _) e).0)
 
-pub overflow_cast-two-in-Made : goal.overflow_cast-two-in-Made
-overflow_cast-two-in-Made c =
-    let (q, e, i, j) = A.table_made c.table.ensures c.in-Made.is in omega (arith, j, (value (tabled _ _ _) e).1)
+pub overflow_cast-two-in-Ok : goal.overflow_cast-two-in-Ok
+overflow_cast-two-in-Ok c =
+    let (q, e, s) = was_given _ _ (sym c.table.ensures.answer ∙ c.in-Ok.is) in omega (arith, ap (λ (z : Sizes). z.cells) s, (value (tabled _ _ _) e).1)
 
-pub returns-in-Refused : goal.returns-in-Refused
-returns-in-Refused c =
-    table_refused _ _ _ _ (omega arith) c.table.ensures c.in-Refused.is _ c.code.ensures
+pub returns-in-Err : goal.returns-in-Err
+returns-in-Err c =
+    table_refused _ _ _ _ (omega arith) c.table.ensures c.in-Err.is _ c.code.ensures
 
-pub returns-in-Made : goal.returns-in-Made
-returns-in-Made c =
-    table_made _ _ _ _ (omega arith) c.table.ensures c.in-Made.is
+pub returns-in-Ok : goal.returns-in-Ok
+returns-in-Ok c =
+    table_made _ _ _ _ (omega arith) c.table.ensures c.in-Ok.is

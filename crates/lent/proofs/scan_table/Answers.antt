@@ -1,4 +1,6 @@
 -- `lent::scan_table` meets its contract.
+use mathlib.Core.Path.{ap}
+use Rattle.std.specs.Prelude.{Err}
 use Prim.Native.Nat.{◌*◌}
 use Rattle.paper.specs.Judge.{scan_lent}
 use Rattle.paper.specs.Tables.{table_in}
@@ -9,13 +11,13 @@ use Rattle.lent.proofs.scan_table.Goals as goal
 pub returns-then-not-has_room : goal.returns-then-not-has_room
 returns-then-not-has_room c =
     let A = c.args in
-    scan_no_room scan_lent table_in reads_lent A.rows.now A.cells.now A.n_rows A.n_cells A.inputs.now A.state.now _ c.has_room.ensures c.if-not-has_room.true-raw _ c.refused.ensures
+    scan_no_room scan_lent table_in reads_lent A.rows.now A.cells.now A.n_rows A.n_cells A.inputs.now A.state.now _ c.has_room.ensures c.if-not-has_room.true-raw _ (ap Err c.refused.ensures)
 
 pub returns-then-not-has_values : goal.returns-then-not-has_values
 returns-then-not-has_values c =
     let A = c.args in
     let room = have_room A.rows.now A.cells.now (4 * A.n_rows) A.n_cells _ c.has_room.ensures c.if-not-has_room.false-raw in
-    scan_no_values scan_lent table_in reads_lent A.rows.now A.cells.now A.n_rows A.n_cells A.inputs.now A.state.now room _ c.has_values.ensures c.if-not-has_values.true-raw _ c.refused-then-not-has_values.ensures
+    scan_no_values scan_lent table_in reads_lent A.rows.now A.cells.now A.n_rows A.n_cells A.inputs.now A.state.now room _ c.has_values.ensures c.if-not-has_values.true-raw _ (ap Err c.refused-then-not-has_values.ensures)
 
 pub returns-then-not-table_keeps : goal.returns-then-not-table_keeps
 returns-then-not-table_keeps c =
@@ -23,7 +25,7 @@ returns-then-not-table_keeps c =
     let room = have_room A.rows.now A.cells.now (4 * A.n_rows) A.n_cells _ c.has_room.ensures c.if-not-has_room.false-raw in
     let values = have_room A.state.now A.inputs.now A.n_cells A.n_cells _ c.has_values.ensures c.if-not-has_values.false-raw in
     let tested = c.table_keeps in
-    scan_broken scan_lent table_in reads_lent A.rows.now A.cells.now A.n_rows A.n_cells A.inputs.now A.state.now room values (table_front _ _ _ _ room.1) tested.result tested.ensures c.if-not-table_keeps.true-raw _ c.refused-then-not-table_keeps.ensures
+    scan_broken scan_lent table_in reads_lent A.rows.now A.cells.now A.n_rows A.n_cells A.inputs.now A.state.now room values (table_front _ _ _ _ room.1) tested.result tested.ensures c.if-not-table_keeps.true-raw _ (ap Err c.refused-then-not-table_keeps.ensures)
 
 pub scan_by-requires : goal.scan_by-requires
 scan_by-requires c =

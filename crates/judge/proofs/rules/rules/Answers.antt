@@ -1,27 +1,29 @@
 -- `judge::rules::rules` meets its contract, one rule after another.
-use Rattle.judge.proofs.Ruling.{bad_name_lem, bad_type, too_high_lem, keeps}
+use Rattle.std.proofs.lemmas.Result.{err_from_is_err_and}
+use Rattle.judge.proofs.Ruling.{bad_name, bad_type, too_high, keeps}
 use Rattle.judge.proofs.rules.rules.Goals as goal
 
-pub returns-then-n-ne0 : goal.returns-then-n-ne0
-returns-then-n-ne0 c room =
-    bad_name_lem _ _ _ _ _ _ _ room c.first_bad_name-n.ensures c.refused.result c.if-n-ne0.true c.refused.ensures
+pub returns-in_err-refuse : goal.returns-in_err-refuse
+returns-in_err-refuse c room =
+    let n = c.first_bad_name-named in
+    let exit = err_from_is_err_and c.from_residual.result c.from_residual.ensures.1 in
+    rw (exit.1, exit.2) (bad_name _ _ _ _ _ _ _ room n.ensures _ c.in_err-refuse.ensures)
 
-pub returns-then-t-ne0 : goal.returns-then-t-ne0
-returns-then-t-ne0 c room =
-    let y = c.first_bad_type-t in
-    bad_type _ _ _ _ _ _ _ room c.first_bad_name-n.ensures c.if-n-ne0.false y.result y.ensures.0
-    c.refused-then-t-ne0.result c.if-t-ne0.true c.refused-then-t-ne0.ensures
+pub returns-in_err-refuse-2 : goal.returns-in_err-refuse-2
+returns-in_err-refuse-2 c room =
+    let n = c.first_bad_name-named in
+    let exit = err_from_is_err_and c.from_residual-in_err-refuse-2.result c.from_residual-in_err-refuse-2.ensures.1 in
+    rw (exit.1, exit.2)
+    (bad_type _ _ _ _ _ _ _ room n.ensures _ c.in_ok-refuse.ensures _ c.first_bad_type.ensures.0 _ c.in_err-refuse-2.ensures)
 
-pub returns-then-h-ne0 : goal.returns-then-h-ne0
-returns-then-h-ne0 c room =
-    let y = c.first_bad_type-t in
-    let h = c.first_too_high-h in
-    too_high_lem _ _ _ _ _ _ _ room c.first_bad_name-n.ensures c.if-n-ne0.false y.result y.ensures.0
-    c.if-t-ne0.false h.result (h.ensures _) c.refused-then-h-ne0.result c.if-h-ne0.true c.refused-then-h-ne0.ensures
+pub returns-in_err-refuse-3 : goal.returns-in_err-refuse-3
+returns-in_err-refuse-3 c room =
+    let n = c.first_bad_name-named in
+    let exit = err_from_is_err_and c.from_residual-in_err-refuse-3.result c.from_residual-in_err-refuse-3.ensures.1 in
+    rw (exit.1, exit.2)
+    (too_high _ _ _ _ _ _ _ room n.ensures _ c.in_ok-refuse.ensures _ c.first_bad_type.ensures.0 _ c.in_ok-refuse-2.ensures _ (c.first_too_high.ensures _) _ c.in_err-refuse-3.ensures)
 
 pub returns : goal.returns
 returns c room =
-    let y = c.first_bad_type-t in
-    let h = c.first_too_high-h in
-    keeps _ _ _ _ _ _ _ room c.first_bad_name-n.ensures c.if-n-ne0.false y.result y.ensures.0
-    c.if-t-ne0.false h.result (h.ensures _) c.if-h-ne0.false c.requires.0 c.first_bad_name-n.auto.table
+    let n = c.first_bad_name-named in
+    keeps _ _ _ _ _ _ _ room n.ensures _ c.in_ok-refuse.ensures _ c.first_bad_type.ensures.0 _ c.in_ok-refuse-2.ensures _ (c.first_too_high.ensures _) _ c.in_ok-refuse-3.ensures c.requires.0 n.auto.table

@@ -1,13 +1,14 @@
 -- `kaldvimur::states::scan_in` meets its contract: judging, and the scan of the judged program.
+use Rattle.std.proofs.lemmas.Result.{err_from_is_err_and}
+use Rattle.kaldvimur.proofs.Holding.{standing}
 use Rattle.kaldvimur.proofs.Scanning.{scan_refused, scan_judged}
 use Rattle.kaldvimur.proofs.states.scan_in.Goals as goal
 
-pub returns-then-j-ne0 : goal.returns-then-j-ne0
-returns-then-j-ne0 c =
-    let j = c.judge-j in
-    scan_refused _ _ _ _ j.result j.ensures _ _ c.if-j-ne0.true c.refusal.result c.refusal.ensures
+pub returns-in_err-program : goal.returns-in_err-program
+returns-in_err-program c =
+    let exit = err_from_is_err_and c.from_residual.result c.from_residual.ensures.1 in
+    rw (exit.1, exit.2) (scan_refused _ _ c.in_err-program.ensures _ _)
 
 pub returns : goal.returns
 returns c =
-    let j = c.judge-j in
-    scan_judged _ _ _ _ j.result j.ensures _ _ c.if-j-ne0.false _ _ c.scan_judged.ensures
+    scan_judged _ _ _ _ _ (standing _ _ c.in_ok-program.ensures) _ _ _ _ c.scan_judged.ensures

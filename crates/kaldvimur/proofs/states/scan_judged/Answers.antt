@@ -12,7 +12,8 @@ pub returns-then-state-n : goal.returns-then-state-n
 returns-then-state-n c =
     let A = c.args in
     let f = c.cells_of-n in
-    elim c.then-state-n.branch [ then-state-n-via-then-state-n w ↦ state_short A.pool.now A.table.now A.plain.now A.j A.inputs.now A.state.now _ _ f.result (omega arith) f.ensures w.if-state-n.true | then-state-n-via-else-state-n+then-inputs-n w ↦ inputs_short A.pool.now A.table.now A.plain.now A.j A.inputs.now A.state.now _ _ f.result (omega arith) f.ensures w.if-state-n.false (ltb-true (length A.inputs.now) f.result w.if-inputs-n.true-raw) ]
+    rw c.refused.ensures
+    (elim c.then-state-n.branch [ then-state-n-via-then-state-n w ↦ state_short A.program.pool.now A.program.table.now A.program.plain.now A.program.judged A.inputs.now A.state.now _ _ f.result (omega arith) f.ensures w.if-state-n.true | then-state-n-via-else-state-n+then-inputs-n w ↦ inputs_short A.program.pool.now A.program.table.now A.program.plain.now A.program.judged A.inputs.now A.state.now _ _ f.result (omega arith) f.ensures w.if-state-n.false (ltb-true (length A.inputs.now) f.result w.if-inputs-n.true-raw) ])
 
 pub slice_bounds-cells-end : goal.slice_bounds-cells-end
 slice_bounds-cells-end c =
@@ -26,7 +27,8 @@ pub returns-then-not-fit : goal.returns-then-not-fit
 returns-then-not-fit c =
     let A = c.args in
     let f = c.cells_of-n in
-    scan_unfit A.pool.now A.table.now A.plain.now A.j A.inputs.now A.state.now _ _ f.result (omega arith) f.ensures c.if-state-n.false (ltb-false (length A.inputs.now) f.result c.if-inputs-n.false-raw) c.fit.result c.fit.ensures c.if-not-fit.true-raw
+    rw c.refused-then-not-fit.ensures
+    (scan_unfit A.program.pool.now A.program.table.now A.program.plain.now A.program.judged A.inputs.now A.state.now _ _ f.result (omega arith) f.ensures c.if-state-n.false (ltb-false (length A.inputs.now) f.result c.if-inputs-n.false-raw) c.fit.result c.fit.ensures c.if-not-fit.true-raw)
 
 pub slice_bounds-cells-end-2 : goal.slice_bounds-cells-end-2
 slice_bounds-cells-end-2 c =
@@ -40,4 +42,4 @@ pub returns : goal.returns
 returns c =
     let A = c.args in
     let f = c.cells_of-n in
-    scan_done A.pool.now A.table.now A.plain.now A.j A.inputs.now A.state.now _ _ f.result (omega arith) f.ensures c.if-state-n.false (ltb-false (length A.inputs.now) f.result c.if-inputs-n.false-raw) c.fit.result c.fit.ensures c.if-not-fit.false-raw _ _ c.carry_out.ensures
+    scan_done A.program.pool.now A.program.table.now A.program.plain.now A.program.judged A.inputs.now A.state.now _ _ f.result (omega arith) f.ensures c.if-state-n.false (ltb-false (length A.inputs.now) f.result c.if-inputs-n.false-raw) c.fit.result c.fit.ensures c.if-not-fit.false-raw _ _ c.carry_out.ensures

@@ -6,4 +6,4 @@ use Rattle.kaldvimur.proofs.tables.write.Goals as goal
 pub returns : goal.returns
 returns c =
     let A = c.args in
-    writes A.pool.now A.table.now A.plain.now A.j _ _ _ _ _ _ _ _ refl c.requires.few c.cells_of.ensures c.table_of.ensures
+    writes A.program.pool.now A.program.table.now A.program.plain.now A.program.judged _ _ _ _ _ _ _ _ refl c.requires.few c.cells_of.ensures c.table_of.ensures
