@@ -1,130 +1,94 @@
 // Scans by the text and by the table, side by side.
 use crate::heading::{inputs_in, print_names};
-use crate::lines::{line_of, readings_in};
-use kaldvimur::tables::Tabled;
+use crate::lines::readings_in;
+use kaldvimur::tables::Sizes;
 use kaldvimur::{Outcome, states, tables};
-use paper::{Verdict, Why};
+use paper::Refusal;
 use std::io;
 
-// A program's numbers of inputs, of cells, and of its table's rows.
+// A program's text and its table, with the numbers of its inputs, rows and cells.
 #[derive(Clone, Copy)]
-struct Numbers {
+struct Program<'a> {
+    text: &'a [u8],
+    rows: &'a [u32],
+    cells: &'a [u32],
     inputs: usize,
-    cells: usize,
-    rows: usize,
+    sizes: Sizes,
 }
 
-fn print_refusal(rt: &impl Print, why: Why, place: usize) -> io::Result<()> {
-    let number = paper::number(why);
+// A state as the scans by the text leave it, and as those by the table do.
+#[derive(Clone, Copy)]
+struct States {
+    by_text: [i64; 64],
+    by_table: [i64; 64],
+}
+
+fn print_refusal(rt: &impl Print, refusal: Refusal) -> io::Result<()> {
+    let number = u8::from(refusal.why);
+    let place = refusal.place;
     print!(rt; "refused {number} at {place}")
 }
 
-// A value, in a column.
-fn print_value(rt: &impl Print, z: i64) -> io::Result<()> {
-    print!(rt; "\t")?;
-    numbers::print_whole(rt, z)
-}
-
-// The cells that are no inputs.
-fn print_state(rt: &impl Print, state: &[i64], p: Numbers) -> io::Result<()> {
-    let mut i = p.inputs;
-    let cells = p.cells;
-    while i < cells && i < state.len() {
-        print_value(rt, state[i])?;
-        i += 1;
+// The cells that are no inputs, each in a column.
+fn print_state(rt: &impl Print, p: Program, state: &[i64]) -> io::Result<()> {
+    for z in state.iter().take(p.sizes.cells).skip(p.inputs) {
+        print!(rt; "\t{z}")?;
     }
     Ok(())
 }
 
-// What a scan left, or its refusal; the number that it answers.
-fn print_side(rt: &impl Print, o: Outcome, state: &[i64], p: Numbers) -> io::Result<usize> {
+// What a scan left, or its refusal.
+fn print_side(rt: &impl Print, p: Program, o: Outcome, state: &[i64]) -> io::Result<()> {
     match o {
-        Outcome::Done(n) => {
-            print_state(rt, state, p)?;
-            Ok(n)
-        }
-        Outcome::Refused { why, place } => {
+        Ok(_) => print_state(rt, p, state),
+        Err(refusal) => {
             print!(rt; "\t")?;
-            print_refusal(rt, why, place)?;
-            Ok(0)
+            print_refusal(rt, refusal)
         }
     }
 }
 
 // A scan by the text, the same by the table, and the steps.
-fn print_scan(
-    rt: &impl Print,
-    text: &[u8],
-    rows: &[u32],
-    cells: &[u32],
-    p: Numbers,
-    values: &[i64],
-    by_text: &mut [i64],
-    by_table: &mut [i64],
-) -> io::Result<()> {
-    let steps = print_side(rt, states::scan(text, by_text, values), by_text, p)?;
+fn print_scan(rt: &impl Print, p: Program, values: &[i64], s: &mut States) -> io::Result<()> {
+    let by_text = states::scan(p.text, &mut s.by_text, values);
+    print_side(rt, p, by_text, &s.by_text)?;
     print!(rt; "\t|")?;
-    let n = p.rows;
-    let k = p.cells;
-    print_side(
-        rt,
-        tables::scan_table(rows, cells, n, k, by_table, values),
-        by_table,
-        p,
-    )?;
+    let Sizes { rows, cells } = p.sizes;
+    let by_table = tables::scan_table(p.rows, p.cells, rows, cells, &mut s.by_table, values);
+    print_side(rt, p, by_table, &s.by_table)?;
+    let steps = by_text.unwrap_or(0);
     println!(rt; "\t| {steps}")
 }
 
-// The scan of the line that `s` begins with, and its number.
+// The scan of a line, with its number.
 fn print_line(
     rt: &impl Print,
-    text: &[u8],
-    rows: &[u32],
-    cells: &[u32],
-    p: Numbers,
-    number: usize,
-    s: &[u8],
-    by_text: &mut [i64],
-    by_table: &mut [i64],
+    p: Program,
+    number: u64,
+    line: &[u8],
+    s: &mut States,
 ) -> io::Result<()> {
     let mut values = [0i64; 64];
     print!(rt; "{number}")?;
-    if !readings_in(s, p.inputs, &mut values) {
+    if !readings_in(line, p.inputs, &mut values) {
         return println!(rt; "\tno readings");
     }
-    print_scan(rt, text, rows, cells, p, &values, by_text, by_table)
+    print_scan(rt, p, &values, s)
 }
 
 // Every line of the readings, from the declared values on.
-fn print_lines(
-    rt: &impl Print,
-    text: &[u8],
-    rows: &[u32],
-    cells: &[u32],
-    p: Numbers,
-    readings: &[u8],
-) -> io::Result<()> {
-    let mut by_text = [0i64; 64];
-    let mut by_table = [0i64; 64];
-    states::start(text, &mut by_text);
-    states::start(text, &mut by_table);
-    let mut at = 0;
-    let mut number: usize = 0;
-    while at < readings.len() {
-        let rest = &readings[at..];
-        at += line_of(rest);
-        number += 1;
-        print_line(
-            rt,
-            text,
-            rows,
-            cells,
-            p,
-            number,
-            rest,
-            &mut by_text,
-            &mut by_table,
-        )?;
+fn print_lines(rt: &impl Print, p: Program, readings: &[u8]) -> io::Result<()> {
+    let mut state = [0i64; 64];
+    if let Err(refusal) = states::start(p.text, &mut state) {
+        print_refusal(rt, refusal)?;
+        return println!(rt; "");
+    }
+    let mut s = States {
+        by_text: state,
+        by_table: state,
+    };
+    for (line, number) in readings.split_inclusive(|b| *b == b'\n').zip(1u64..) {
+        print_line(rt, p, number, line, &mut s)?;
     }
     Ok(())
 }
@@ -141,7 +105,7 @@ fn print_columns(rt: &impl Print, print: &[u8], figure: usize) -> io::Result<()>
 // The heading; the number of inputs.
 fn print_heading(rt: &impl Print, text: &[u8], figure: usize) -> io::Result<usize> {
     let mut out = [0u8; 65536];
-    let Outcome::Done(n) = kaldvimur::print(text, &mut out) else {
+    let Ok(n) = kaldvimur::print(text, &mut out) else {
         return Ok(0);
     };
     let print = &out[..n];
@@ -150,27 +114,23 @@ fn print_heading(rt: &impl Print, text: &[u8], figure: usize) -> io::Result<usiz
 }
 
 // An accepted text's scans.
-fn show_accepted(
-    rt: &impl Print,
-    text: &[u8],
-    cells: usize,
-    figure: usize,
-    readings: &[u8],
-) -> io::Result<()> {
+fn show_accepted(rt: &impl Print, text: &[u8], figure: usize, readings: &[u8]) -> io::Result<()> {
     let mut rows = [0u32; 12256];
-    let mut infos = [0u32; 64];
-    match tables::table(text, &mut rows, &mut infos) {
-        Tabled::Made { rows: n, cells: k } => {
+    let mut cells = [0u32; 64];
+    match tables::table(text, &mut rows, &mut cells) {
+        Ok(sizes) => {
             let inputs = print_heading(rt, text, figure)?;
-            let p = Numbers {
+            let p = Program {
+                text,
+                rows: &rows,
+                cells: &cells,
                 inputs,
-                cells,
-                rows: n,
+                sizes,
             };
-            print_lines(rt, text, &rows, &infos, p, readings)
+            print_lines(rt, p, readings)
         }
-        Tabled::Refused { why, place } => {
-            print_refusal(rt, why, place)?;
+        Err(refusal) => {
+            print_refusal(rt, refusal)?;
             println!(rt; "")
         }
     }
@@ -179,14 +139,9 @@ fn show_accepted(
 // A text's refusal, or its scans.
 pub fn show(rt: &impl Print, text: &[u8], readings: &[u8]) -> io::Result<()> {
     match kaldvimur::accept(text) {
-        Verdict::Accepted {
-            cells,
-            weight,
-            figure,
-            length,
-        } => show_accepted(rt, text, cells, figure, readings),
-        Verdict::Refused { why, place } => {
-            print_refusal(rt, why, place)?;
+        Ok(accepted) => show_accepted(rt, text, accepted.figure, readings),
+        Err(refusal) => {
+            print_refusal(rt, refusal)?;
             println!(rt; "")
         }
     }

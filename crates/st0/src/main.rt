@@ -1,12 +1,12 @@
 // A text from standard input; its ST0 to standard output, or the line `refused N at P`.
 #![tactic(auto)]
 
-use kaldvimur::Outcome;
-use paper::Why;
+use paper::Refusal;
 use std::io;
 
-fn print_refusal(rt: &impl Print, why: Why, place: usize) -> io::Result<()> {
-    let number = paper::number(why);
+fn print_refusal(rt: &impl Print, refusal: Refusal) -> io::Result<()> {
+    let number = u8::from(refusal.why);
+    let place = refusal.place;
     println!(rt; "refused {number} at {place}")
 }
 
@@ -16,7 +16,7 @@ fn main(rt: HostRuntime) -> io::Result<()> {
     let mut out = [0u8; 65536];
     let n = pack::read_full(&mut rt.reader(), &mut text);
     match kaldvimur::print(&text[..n], &mut out) {
-        Outcome::Done(l) => rt.write_all(&out[..l]),
-        Outcome::Refused { why, place } => print_refusal(&rt, why, place),
+        Ok(l) => rt.write_all(&out[..l]),
+        Err(refusal) => print_refusal(&rt, refusal),
     }
 }

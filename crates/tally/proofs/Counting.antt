@@ -1,22 +1,11 @@
--- The counts: texts that differ, and records that may be left.
+-- How many records may be left.
 use mathlib.Core.Path.{◌≡◌, refl}
-use mathlib.Core.Bool.{Bool, true, false, cond, ◌&&◌}
-use Prim.Native.Nat.{ℕ, suc, ◌+◌, ◌-◌, ◌<◌}
+use mathlib.Core.Bool.{Bool, true, false, cond}
+use Prim.Native.Nat.{ℕ, suc, ◌+◌, ◌-◌, ◌≤◌, ◌<◌}
 use native.Mathlib.Omega.{arith}
 use Rattle.tally.specs.declared.Tally.{Tally}
 use Rattle.tally.specs.Counts.{Went}
 
--- both the same, or one of them not
-pub same : (x y : Bool) (d : ℕ) → x ≡ true → y ≡ true → d ≡ cond (x && y) d (d + 1)
-same x y d h k = rw (h, k)
-
-pub first_differs : (x y : Bool) (d : ℕ) → x ≡ false → d + 1 ≡ cond (x && y) d (d + 1)
-first_differs x y d h = rw h
-
-pub second_differs : (x y : Bool) (d : ℕ) → x ≡ true → y ≡ false → d + 1 ≡ cond (x && y) d (d + 1)
-second_differs x y d h k = rw (h, k)
-
--- how many records may be left
 abbrev pub left : Tally → ℕ
 left t = cond t.more (suc (100000 - t.tried)) 0
 
@@ -26,3 +15,10 @@ fewer false a b h l = omega arith
 
 pub went_on : (t r : Tally) → t.more ≡ true → t.tried < 100000 → Went t r → left r < left t
 went_on t r m l w = rw m (fewer r.more r.tried t.tried w.tried l)
+
+no_more : (m : Bool) (a b : ℕ) → (m ≡ true → a ≡ b + 1) → (m ≡ false → a ≡ b) → a ≤ b + 1
+no_more true a b h k = let e = h refl in omega arith
+no_more false a b h k = let e = k refl in omega arith
+
+pub one_at_most : (t r : Tally) → Went t r → r.tried ≤ t.tried + 1
+one_at_most t r w = no_more r.more r.tried t.tried w.tried (λ e. (w.ended e).0)

@@ -1,34 +1,39 @@
 -- What is expected as far as some number, and the counts of texts.
-use Rattle.std.specs.Prelude.{◌≡◌, true, ◌&&◌, cond, List, ℕ, ◌+◌, ◌≤◌, eqb, leb}
+use Rattle.std.specs.Prelude.{◌≡◌, ◌≢◌, true, false, cond, List, ℕ, ◌+◌, ◌≤◌, leb, Option, None, Some}
 use Rattle.paper.specs.Refusals as P
 use Rattle.paper.specs.Refusals.{refused, given, number_of}
 use Rattle.pack.specs.declared.Expected.{Expected}
-use Rattle.pack.specs.declared.Expected.TheVariants.{Print, Refused, Neither}
-use Rattle.pack.specs.Records.{IsExpected}
+use Rattle.pack.specs.declared.Expected.TheVariants as E
+use Rattle.pack.specs.Records.{numbered, IsExpected}
 use Rattle.tally.specs.declared.Answer.{Answer}
+use Rattle.tally.specs.declared.Answer.TheVariants.{Passed, Refused, Unclear}
+use Rattle.tally.specs.declared.Answers.{Answers}
 use Rattle.tally.specs.declared.Tally.{Tally}
 
--- a refusal's number and its place, or 0 and 0
+-- a refusal's number and its place, or none
 abbrev pub Says : {A : Type 0} → P.Answer A → Answer → Type 0
-Says (refused w p) r = (r.number ≡ number_of w) × (r.place ≡ p)
-Says (given x) r = (r.number ≡ 0) × (r.place ≡ 0)
+Says (refused w p) r = r ≡ Refused (numbered (number_of w) p)
+Says (given x) r = r ≡ Passed
 
 -- what is expected, where every answer but the refusals up to `last` counts as none
-abbrev pub wanted_of : ℕ → Expected → Answer
-wanted_of last Print = record { number = 0; place = 0 }
-wanted_of last (Refused n p) = cond (leb n last) (record { number = n; place = p }) (record { number = 0; place = 0 })
-wanted_of last Neither = record { number = 13; place = 0 }
+abbrev pub wanted_of : ℕ → Option Expected → Answer
+wanted_of last (Some E.Print) = Passed
+wanted_of last (Some (E.Refused r)) = cond (leb r.number last) (Refused r) Passed
+wanted_of last None = Unclear
 
 abbrev pub IsWanted : List ℕ → ℕ → Answer → Type 0
-IsWanted s last r = (e : Expected) × IsExpected s e × (r ≡ wanted_of last e)
+IsWanted s last r = (e : Option Expected) × IsExpected s e × (r ≡ wanted_of last e)
 
 -- one text more is tried, and one more differs unless the answers are the same
-pub record Tallied (t : Tally) (a b : Answer) (r : Tally) : Type 0 where
+pub record Tallied (t : Tally) (a : Answers) (r : Tally) : Type 0 where
   pub tried : r.tried ≡ t.tried + 1
-  pub differ : r.differ ≡ cond (eqb a.number b.number && eqb a.place b.place) t.differ (t.differ + 1)
+  pub same : a.ours ≡ a.wanted → r.differ ≡ t.differ
+  pub other : a.ours ≢ a.wanted → r.differ ≡ t.differ + 1
+  pub more : r.more ≡ true
   pub fewer : r.differ ≤ r.tried
 
--- if there may be more, one more is tried
+-- if there may be more, one more is tried; else none is
 pub record Went (t r : Tally) : Type 0 where
   pub tried : r.more ≡ true → r.tried ≡ t.tried + 1
+  pub ended : r.more ≡ false → (r.tried ≡ t.tried) × (r.differ ≡ t.differ)
   pub fewer : r.differ ≤ r.tried

@@ -4,27 +4,12 @@ use Rattle.paper.specs.declared.Why.TheVariants.{NoRoom}
 use Rattle.paper.specs.Refusals.{Answer, refused, given}
 use Rattle.paper.specs.Tables.{Lent}
 use Rattle.paper.specs.Judge.{start_into, table_into}
-use Rattle.lent.specs.declared.Outcome.{Outcome}
-use Rattle.lent.specs.declared.Outcome.TheVariants as O
-use Rattle.kaldvimur.specs.declared.tables.Tabled.{Tabled}
-use Rattle.kaldvimur.specs.declared.tables.Tabled.TheVariants.{Made, Refused}
 use Rattle.lent.specs.Outcomes.{outcome}
-use Rattle.try_runs.specs.declared.compare.Wanted.{Wanted}
-use Rattle.try_runs.specs.Expected.{IsAs}
-
--- the answer for a table as one that counts its cells
-abbrev pub cells_in : Tabled → Outcome
-cells_in (Made n k) = O.Done k
-cells_in (Refused w p) = O.Refused w p
-
--- how many cells a table has, if it is made
-abbrev pub cells_of : Answer Lent → ℕ
-cells_of (refused w p) = 0
-cells_of (given u) = u.cell_count
+use Rattle.try_runs.specs.Expected.{Wanted, IsAs}
 
 -- making the table of a text in these buffers answers as expected
 pub record TablesAs (t rows cells : List ℕ) (w : Wanted) : Type 0 where
-  pub answer : IsAs (outcome (cells_of (table_into t rows cells)) (table_into t rows cells)) w
+  pub answer : IsAs (outcome (λ u. u.cell_count) (table_into t rows cells)) w
 
 -- the buffers are too short for the table of a text, and hold nothing but v afterwards
 pub record Untabled (t oldRows oldCells newRows newCells : List ℕ) (v : ℕ) : Type 0 where

@@ -1,188 +1,105 @@
 // A text's runs: the starting state and scans, by the text and from its table.
-ghost use Rattle.std.specs.Prelude.{◌≡◌, ◌≤◌, length};
-
-use crate::compare::{Wanted, checked, scanned, started};
-use crate::lines::{ends, line_end, refusal_in, values_in};
+use crate::compare::{Lent, Scan, Wanted, checked, scanned};
+use crate::lines::refusal_in;
 use crate::short::short_refused;
-use kaldvimur::tables::{Tabled, table};
+use crate::states::{States, start_line, state_line};
+use kaldvimur::tables::{Sizes, table};
 use numbers::listed_in;
-use pack::begins;
+use pack::alone;
 use tally::Answer;
 
-// `start S,S,..`: both buffers are made as long as the state, and it is put into them. The number of values, 0 where it differs.
-fn start_line(text: &[u8], x: &mut [i64], y: &mut [i64], after: &mut [i64], s: &[u8]) -> usize
-    requires { (length x.old ≡ 80) × (length y.old ≡ 80) × (length after.old ≡ 80) }
-    ensures { result ≤ 80 }
-{
-    let n = values_in(s, after);
-    let w = Wanted::Count(n as u64);
-    if !started(text, &mut x[..n], &after[..n], w) {
-        return 0;
+// `S,S,.. in N`, the values into `after`, or `refused N at P`.
+fn wanted_in(s: &[u8], after: &mut [i64]) -> Option<Wanted> {
+    if s.starts_with(b"refused ") {
+        return Some(Err(refusal_in(s)?));
     }
-    if !started(text, &mut y[..n], &after[..n], w) {
-        return 0;
+    let l = listed_in(s, after).ok()?;
+    if l.values != after.len() {
+        return None;
     }
-    n
+    let steps = alone(s[l.count..].strip_prefix(b" in ")?)?;
+    Some(Ok(steps as usize))
 }
 
-// `state S,S,..`: from here on the buffers hold exactly these values.
-fn state_line(x: &mut [i64], y: &mut [i64], after: &mut [i64], s: &[u8]) -> usize
-    requires { (length x.old ≡ 80) × (length y.old ≡ 80) × (length after.old ≡ 80) }
-    ensures { result ≤ 80 }
-{
-    let n = values_in(s, after);
-    if values_in(s, x) != n {
-        return 0;
-    }
-    if values_in(s, y) != n {
-        return 0;
-    }
-    n
-}
-
-// `S,S,.. in N`: the values into `after`, and the steps.
-fn steps_in(s: &[u8], after: &mut [i64]) -> Wanted {
-    let l = listed_in(s, after);
-    let c = l.count;
-    let rest = &s[c..];
-    if !l.some || l.values != after.len() || !begins(rest, b" in ") {
-        return Wanted::Refusal(0, 0);
-    }
-    let d = pack::digits(&rest[4..]);
-    let e = 4 + d.count;
-    if d.count == 0 || !ends(&rest[e..]) {
-        return Wanted::Refusal(0, 0);
-    }
-    Wanted::Count(d.value)
-}
-
-// `I,I,.. -> S,S,.. in N` or `I,I,.. -> refused N at P`: a scan from the state that the line before left.
-fn scan_line(
-    text: &[u8],
-    rows: &[u32],
-    cells: &[u32],
-    x: &mut [i64],
-    y: &mut [i64],
-    after: &mut [i64],
-    s: &[u8],
-) -> bool {
+// `I,I,.. -> ` and what is expected: a scan from the state that the line before left; the states behind it, if it is as expected.
+fn scan_line(text: &[u8], t: Lent, states: States, s: &[u8]) -> Option<States> {
+    let States {
+        mut by_text,
+        mut by_table,
+        mut after,
+        count,
+    } = states;
     let mut inputs = [0i64; 80];
-    let l = listed_in(s, &mut inputs);
-    let c = l.count;
-    let n = l.values;
-    if !l.some || !begins(&s[c..], b" -> ") {
-        return false;
+    let l = listed_in(s, &mut inputs).ok()?;
+    let answer = s[l.count..].strip_prefix(b" -> ")?;
+    let wanted = wanted_in(answer, &mut after[..count])?;
+    let scan = Scan {
+        inputs: &inputs[..l.values],
+        after: &after[..count],
+        wanted,
+    };
+    if !scanned(text, t, scan, &mut by_text[..count], &mut by_table[..count]) {
+        return None;
     }
-    let rest = &s[c + 4..];
-    if begins(rest, b"refused ") {
-        return scanned(
-            text,
-            rows,
-            cells,
-            x,
-            y,
-            &inputs[..n],
-            after,
-            refusal_in(rest),
-        );
-    }
-    let w = steps_in(rest, after);
-    scanned(text, rows, cells, x, y, &inputs[..n], after, w)
+    Some(States {
+        by_text,
+        by_table,
+        after,
+        count,
+    })
 }
 
-// A line; `n` values are in the buffers before it. How many are behind it, 0 where it differs.
-fn line(
-    text: &[u8],
-    rows: &[u32],
-    cells: &[u32],
-    x: &mut [i64],
-    y: &mut [i64],
-    after: &mut [i64],
-    n: usize,
-    s: &[u8],
-) -> usize
-    requires { (length x.old ≡ 80) × (length y.old ≡ 80) × (length after.old ≡ 80) × (n ≤ 80) }
-    ensures { result ≤ 80 }
-{
-    if begins(s, b"start ") {
-        return start_line(text, x, y, after, &s[6..]);
+// A line, and the states behind it, if it is as expected.
+fn line(text: &[u8], t: Lent, states: States, s: &[u8]) -> Option<States> {
+    if let Some(state) = s.strip_prefix(b"start ") {
+        return start_line(text, state);
     }
-    if begins(s, b"state ") {
-        return state_line(x, y, after, &s[6..]);
+    if let Some(state) = s.strip_prefix(b"state ") {
+        return state_line(state);
     }
-    if !begins(s, b"scan ") {
-        return 0;
-    }
-    if scan_line(
-        text,
-        rows,
-        cells,
-        &mut x[..n],
-        &mut y[..n],
-        &mut after[..n],
-        &s[5..],
-    ) {
-        return n;
-    }
-    0
+    scan_line(text, t, states, s.strip_prefix(b"scan ")?)
 }
 
-// Every line: 0, or 14 and the place of the one that differs.
-fn lines(text: &[u8], rows: &[u32], cells: &[u32], s: &[u8]) -> Answer {
-    let mut x = [0i64; 80];
-    let mut y = [0i64; 80];
-    let mut after = [0i64; 80];
-    let mut n = 0;
-    let mut at = 0;
-    while at < s.len() {
-        let end = line_end(s, at);
-        n = line(
-            text,
-            rows,
-            cells,
-            &mut x,
-            &mut y,
-            &mut after,
-            n,
-            &s[at..end],
-        );
-        if n == 0 {
-            return Answer {
-                number: 14,
-                place: at as u64,
-            };
+// Every line; the place of the one that differs.
+fn lines(text: &[u8], t: Lent, s: &[u8]) -> Answer {
+    let states = &mut States {
+        by_text: [0; 80],
+        by_table: [0; 80],
+        after: [0; 80],
+        count: 0,
+    };
+    let mut place = 0;
+    for part in s.split_inclusive(|b| *b == b'\n') {
+        match line(text, t, *states, part) {
+            Some(next) if next.count != 0 => *states = next,
+            _ => return Answer::Other { place },
         }
-        at = end;
+        place += part.len() as u64;
     }
-    Answer {
-        number: 0,
-        place: 0,
-    }
+    Answer::Passed
 }
 
-// A text and its lines; 15 where no table is made from it, or one that rule 11 refuses; 17 where room too short is not refused.
+// A text and its lines.
 pub fn text_as(text: &[u8], expected: &[u8]) -> Answer {
     if !short_refused(text) {
-        return Answer {
-            number: 17,
-            place: 0,
-        };
+        return Answer::RoomSpared;
     }
     let mut rows = [0u32; 12256];
     let mut cells = [0u32; 64];
-    let none = Answer {
-        number: 15,
-        place: 0,
-    };
-    let Tabled::Made { rows: n, cells: k } = table(text, &mut rows, &mut cells) else {
-        return none;
+    let Ok(Sizes { rows: n, cells: k }) = table(text, &mut rows, &mut cells) else {
+        return Answer::NoTable;
     };
     if 3064 < n || 64 < k {
-        return none;
+        return Answer::NoTable;
     }
-    let end = 4 * n;
-    if !checked(&rows[..end], &cells[..k], n, k, Wanted::Count(k as u64)) {
-        return none;
+    let t = Lent {
+        rows: &rows[..4 * n],
+        cells: &cells[..k],
+        row_count: n,
+        cell_count: k,
+    };
+    if !checked(t, Ok(k)) {
+        return Answer::NoTable;
     }
-    lines(text, &rows[..end], &cells[..k], expected)
+    lines(text, t, expected)
 }

@@ -1,58 +1,42 @@
 // Lent buffers one place too short: refused with 10 at the place 0, and left as they were.
-ghost use Rattle.std.specs.Prelude.{◌≡◌, true, ℕ, ◌+◌, ◌*◌, ◌<◌, pos, length, replicate};
+ghost use Rattle.std.specs.Prelude.{◌≡◌, true, ◌+◌, ◌*◌, ◌<◌, pos, length, replicate, Ok};
+ghost use Rattle.paper.specs.declared.Accepted.{Accepted};
 ghost use Rattle.paper.specs.declared.Why.TheVariants.{NoRoom};
-ghost use Rattle.paper.specs.declared.Verdict.TheVariants.{Accepted};
 ghost use Rattle.paper.specs.Refusals.{refused};
 ghost use Rattle.paper.specs.Judge.{verdict, start_into, table_into};
-ghost use Rattle.try_runs.specs.Short.{cells_in, TablesAs, Untabled, MadeIn, Short};
+ghost use Rattle.try_runs.specs.Short.{TablesAs, Untabled, MadeIn, Short};
 
 use crate::compare::{Wanted, is_as, started};
-use kaldvimur::tables::{Tabled, table};
-use kaldvimur::{Outcome, accept};
-use paper::Verdict;
+use kaldvimur::accept;
+use kaldvimur::tables::table;
+use pack::Refused;
+use paper::Accepted;
+
+// The refusal of what has no room.
+const NO_ROOM: Refused = Refused {
+    number: 10,
+    place: 0,
+};
 
 // Whether every number of a buffer is v.
 fn holds_only(s: &[u32], v: u32) -> bool
     ensures { result ≡ true → s.now ≡ replicate (length s.now) v }
 {
-    let mut i = 0;
-    while i < s.len() {
-        if s[i] != v {
-            return false;
-        }
-        i += 1;
-    }
-    true
+    s.iter().all(|n| *n == v)
 }
 
-// The answer for a table as one that counts its cells.
-fn cells_in(t: Tabled) -> Outcome
-    ensures { result ≡ cells_in t }
-{
-    match t {
-        Tabled::Made { rows, cells } => Outcome::Done(cells),
-        Tabled::Refused { why, place } => Outcome::Refused { why, place },
-    }
-}
-
-// Whether a table made in these buffers is answered for as expected.
+// Whether a table made in these buffers is answered for as expected: its cells are counted.
 fn table_as(text: &[u8], rows: &mut [u32], cells: &mut [u32], w: Wanted) -> bool
     ensures { result ≡ true → TablesAs text.now rows.old cells.old w }
 {
-    is_as(cells_in(table(text, rows, cells)), w)
+    is_as(table(text, rows, cells).map(|sizes| sizes.cells), w)
 }
 
 // Whether these buffers are too short for the table, and every number in them is v afterwards.
 fn untabled(text: &[u8], rows: &mut [u32], cells: &mut [u32], v: u32) -> bool
     ensures { result ≡ true → Untabled text.now rows.old cells.old rows.new cells.new v }
 {
-    if !table_as(text, rows, cells, Wanted::Refusal(10, 0)) {
-        return false;
-    }
-    if !holds_only(rows, v) {
-        return false;
-    }
-    holds_only(cells, v)
+    table_as(text, rows, cells, Err(NO_ROOM)) && holds_only(rows, v) && holds_only(cells, v)
 }
 
 // Whether a state of n places, which hold 7 before and afterwards, is too short to start in.
@@ -61,10 +45,7 @@ fn state_short(text: &[u8], n: usize) -> bool
 {
     let mut state = [7i64; 64];
     let before = [7i64; 64];
-    if 64 < n {
-        return false;
-    }
-    started(text, &mut state[..n], &before[..n], Wanted::Refusal(10, 0))
+    n <= 64 && started(text, &mut state[..n], &before[..n], Err(NO_ROOM))
 }
 
 // Whether n numbers and k cells, 7 each, are too few for the table.
@@ -73,10 +54,7 @@ fn table_short(text: &[u8], n: usize, k: usize) -> bool
 {
     let mut rows = [7u32; 12256];
     let mut cells = [7u32; 64];
-    if 12256 < n {
-        return false;
-    }
-    if 64 < k {
+    if 12256 < n || 64 < k {
         return false;
     }
     untabled(text, &mut rows[..n], &mut cells[..k], 7)
@@ -88,51 +66,29 @@ fn table_made(text: &[u8], n: usize, k: usize) -> bool
 {
     let mut rows = [7u32; 12256];
     let mut cells = [7u32; 64];
-    if 12256 < n {
+    if 12256 < n || 64 < k {
         return false;
     }
-    if 64 < k {
-        return false;
-    }
-    table_as(
-        text,
-        &mut rows[..n],
-        &mut cells[..k],
-        Wanted::Count(k as u64),
-    )
+    table_as(text, &mut rows[..n], &mut cells[..k], Ok(k))
 }
 
 // Whether buffers as long as the counts of an accepted text ask for are enough, and are too short with a place less.
 pub fn short_refused(text: &[u8]) -> bool
-    ensures { result ≡ true → (k w f l : ℕ) → verdict text.now ≡ Accepted k w f l → 0 < k → Short text.now (4 * (w + k)) k }
+    ensures { result ≡ true → (a : Accepted) → verdict text.now ≡ Ok a → 0 < a.cells → Short text.now (4 * (a.weight + a.cells)) a.cells }
 {
-    let Verdict::Accepted {
-        cells: k,
-        weight: w,
-        figure: f,
-        length: l,
-    } = accept(text)
-    else {
+    let Ok(a) = accept(text) else {
         return false;
     };
+    let k = a.cells;
     if k == 0 {
         return true;
     }
-    if 64 < k {
+    if 64 < k || 3000 < a.weight {
         return false;
     }
-    if 3000 < w {
-        return false;
-    }
-    let n = 4 * (w + k);
-    if !state_short(text, k - 1) {
-        return false;
-    }
-    if !table_short(text, n - 1, k) {
-        return false;
-    }
-    if !table_short(text, n, k - 1) {
-        return false;
-    }
-    table_made(text, n, k)
+    let n = 4 * (a.weight + k);
+    state_short(text, k - 1)
+        && table_short(text, n - 1, k)
+        && table_short(text, n, k - 1)
+        && table_made(text, n, k)
 }

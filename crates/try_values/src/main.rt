@@ -3,6 +3,7 @@
 
 use paper::Ty;
 
+#[tactic(auto, unfolding(paper::specs::Types::encode, paper::specs::Types::decode))]
 fn main() {
     // INT 32767 + 1 is -32768.
     check::expect(value::sum(Ty::Int, 32767, 1) == 0x8000);

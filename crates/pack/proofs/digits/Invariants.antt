@@ -1,12 +1,7 @@
-use Prim.Native.Nat.{◌-◌, ◌≤◌, ◌<◌}
-use lib.ListN.{length, take}
+use Rattle.std.proofs.Common.{◌≡◌, ◌<◌, take}
 use Rattle.pack.specs.Records.{Decimal}
 use Rattle.pack.proofs.digits.Given as goal
 
-abbrev pub invariant-loop-count : goal.invariant-loop-count
-invariant-loop-count l =
-    (l.count ≤ length l.s) × (l.value < 1000000000) × Decimal (take l.count l.s) l.value
-
-abbrev pub decreases-loop-count : goal.decreases-loop-count
-decreases-loop-count l =
-    length l.s - l.count
+abbrev pub invariant-loop-b : goal.invariant-loop-b
+invariant-loop-b l =
+    (l.count ≡ l.b-index) × (l.value < 1000000000) × Decimal (take l.b-index l.s) l.value

@@ -1,29 +1,23 @@
--- `pack::expected_in` meets its contract.
-use mathlib.Core.Path.{sym, ◌∙◌}
+-- `pack::expected_in` meets its contract: what stands behind the word.
+use Rattle.std.specs.Prelude.{None, Some}
+use Rattle.std.proofs.lemmas.Bool.Decides.{Decides-eqb}
+use Rattle.std.proofs.lemmas.Slice.Eq.{strip_prefix_is}
 use Rattle.paper.specs.Words.{bytes}
-use Rattle.pack.proofs.Numbers.{cut}
-use Rattle.pack.proofs.Beginnings.{fits_in}
+use Rattle.pack.proofs.Beginnings.{begun, not_begun}
 use Rattle.pack.proofs.expected_in.Goals as goal
-
-pub returns-then-not-begins : goal.returns-then-not-begins
-unfolding bytes
-returns-then-not-begins c =
-    sym c.begins.ensures ∙ c.if-not-begins.true
-
-pub slice_bounds-pair_in-count : goal.slice_bounds-pair_in-count
-slice_bounds-pair_in-count c = fits_in _ _ (sym c.begins.ensures ∙ c.if-not-begins.false)
-
-pub slice_bounds-pair_in-start : goal.slice_bounds-pair_in-start
-slice_bounds-pair_in-start c =
-    fits_in _ _ (sym c.begins.ensures ∙ c.if-not-begins.false)
 
 pub returns-in_default : goal.returns-in_default
 unfolding bytes
 returns-in_default c =
-    sym c.begins.ensures ∙ c.if-not-begins.false
+    not_begun (bytes "refused ") c.args.s.now (strip_prefix_is Decides-eqb c.args.s.now (bytes "refused ") None c.in_default.ensures.cases)
+
+pub returns-in_err-number : goal.returns-in_err-number
+unfolding bytes
+returns-in_err-number c =
+    let e = strip_prefix_is Decides-eqb c.args.s.now (bytes "refused ") (Some c.in-Some.refusal) c.in-Some.ensures.cases in
+    rw (c.from_residual.ensures, e) (begun (bytes "refused ") c.in-Some.refusal.now)
 
 pub returns : goal.returns
 unfolding bytes
 returns c =
-    let k = sym c.begins.ensures ∙ c.if-not-begins.false in
-    (_, cut _ _ k, rw c.in-Of.is at c.pair_in.ensures)
+    (_, strip_prefix_is Decides-eqb c.args.s.now (bytes "refused ") (Some c.in-Some.refusal) c.in-Some.ensures.cases, c.in_ok-number.ensures)

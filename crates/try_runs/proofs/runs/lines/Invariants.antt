@@ -1,12 +1,9 @@
-use mathlib.Core.Path.{◌≡◌}
-use Prim.Native.Nat.{◌≤◌, ◌-◌}
-use lib.ListN.{length}
+use Rattle.std.proofs.Common.{◌≤◌, ◌+◌, length}
+use Rattle.std.specs.Slice.Iter.{split_inclusive_rest}
 use Rattle.try_runs.proofs.runs.lines.Given as goal
 
-abbrev pub invariant-loop-at : goal.invariant-loop-at
-invariant-loop-at l =
-    (l.at ≤ length l.s) × (l.n ≤ 80) × (length l.x ≡ 80) × (length l.y ≡ 80) × (length l.after ≡ 80)
-
-abbrev pub decreases-loop-at : goal.decreases-loop-at
-decreases-loop-at l =
-    length l.s - l.at
+abbrev pub invariant-loop-part : goal.invariant-loop-part
+invariant-loop-part l =
+    (goal.iterator-loop-part).can_next l.part-iterator
+    × (goal.iterator-loop-part).is_finite l.part-iterator
+    × (l.place + length (split_inclusive_rest l.part-iterator) ≤ length l.s)

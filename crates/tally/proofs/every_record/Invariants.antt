@@ -1,9 +1,9 @@
 use Rattle.std.proofs.Common.{◌≤◌}
 use Rattle.tally.proofs.Counting.{left}
-use Rattle.try_rules.proofs.all.Given as goal
+use Rattle.tally.proofs.every_record.Given as goal
 
 abbrev pub invariant-loop-t : goal.invariant-loop-t
-invariant-loop-t g l = l.t.differ ≤ l.t.tried
+invariant-loop-t g l = goal.J-IsAlwaysCallable g l.judge × (l.t.differ ≤ l.t.tried) × (l.t.tried ≤ 100000)
 
 abbrev pub decreases-loop-t : goal.decreases-loop-t
 decreases-loop-t g l = left l.t
