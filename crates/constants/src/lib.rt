@@ -2,15 +2,14 @@
 // The variables of the table and what their cells hold are lent to each function.
 #![tactic(auto)]
 
-ghost use Rattle.std.specs.Prelude.{◌≡◌, not, ◌&&◌, ◌-◌, pos, get_or, IfSome};
+ghost use Rattle.std.specs.Prelude.{◌≡◌, not, ◌&&◌, pos, IfSome};
 ghost use Rattle.std.proofs.Math.Option.{some};
 ghost use Rattle.paper.specs.declared.Ty.TheVariants.{Bool as BOOL};
-ghost use Rattle.paper.specs.declared.Op.TheVariants.{Or};
 ghost use Rattle.paper.specs.Types.{negate, convert, bit, is_true, decode, divides, sort_of, is_arithmetic};
 ghost use Rattle.paper.specs.Typing.{is_zero, type_of_name, type_of, operand_type};
 ghost use Rattle.paper.specs.Plain as Plain;
 ghost use Rattle.paper.specs.Meaning.{operate, variable_cell, element_cell, whole_value};
-ghost use Rattle.tree.specs.Trees.{name_at, operators, expr_at};
+ghost use Rattle.tree.specs.Trees.{name_at, expr_at};
 ghost use Rattle.tree.specs.Kinds.{operand, IsExpression};
 ghost use Rattle.tree.specs.declared.kinds.Expression.TheVariants.{Binary};
 ghost use Rattle.variables.specs.Table.{listed_in};
@@ -76,28 +75,6 @@ pub fn type_of_expression(vars: Variables, n: Node) -> Option<Ty>
             None => type_of_expression(vars, n.child(2)),
         },
         _ => Some(Ty::Bool),
-    }
-}
-
-// The operator with a node's kind, the first and the last beyond the ends.
-pub fn operator_at(k: u16) -> Op
-    ensures { result ≡ get_or operators (k - 11) Or }
-{
-    match k {
-        0..=11 => Op::Mul,
-        12 => Op::Div,
-        13 => Op::Mod,
-        14 => Op::Add,
-        15 => Op::Sub,
-        16 => Op::Lt,
-        17 => Op::Gt,
-        18 => Op::Le,
-        19 => Op::Ge,
-        20 => Op::Eq,
-        21 => Op::Ne,
-        22 => Op::And,
-        23 => Op::Xor,
-        _ => Op::Or,
     }
 }
 

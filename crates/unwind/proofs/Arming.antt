@@ -15,7 +15,6 @@ use Rattle.tree.specs.Nodes.{child_of}
 use Rattle.tree.specs.Kinds.{IsArms}
 use Rattle.tree.specs.declared.kinds.Arms.TheVariants as K
 use Rattle.tree.specs.Trees as T
-use Rattle.variables.specs.Table.{listed_in}
 use Rattle.plain.specs.Flat.{expr_at, list_at}
 use Rattle.plain.proofs.Lists.{list_nil}
 use Rattle.unwind.specs.declared.lists.Walk.{Walk}
@@ -35,11 +34,8 @@ tested mid x (given m) c h = (ap given (sym h.0), h.1)
 
 -- ---- the arms at a node
 
-module _ (t p tab : List ℕ) (env : State) (s : Stand.Selector) (i n w : ℕ) (old : List ℕ) where
-  abbrev vs : List Variable
-  vs = listed_in t p tab
-
-  pub no_arms_did : IsArms p i K.Nothing → (r : Walk) → r.count ≡ n → r.root ≡ 0 → r.weight ≡ w → w ≤ 3000 → ArmsDid t p tab env env old old s i n w (Ok r)
+module _ (vs : List Variable) (t p : List ℕ) (env : State) (s : Stand.Selector) (chosen : S.Expr) (i n w : ℕ) (old : List ℕ) where
+  pub no_arms_did : IsArms p i K.Nothing → (r : Walk) → r.count ≡ n → r.root ≡ 0 → r.weight ≡ w → w ≤ 3000 → ArmsDid vs t p env env old old s chosen i n w (Ok r)
   unfolding unwind
   no_arms_did e r ec er ew l =
       record {
@@ -51,8 +47,8 @@ module _ (t p tab : List ℕ) (env : State) (s : Stand.Selector) (i n w : ℕ) (
       }
 
   -- the ELSE list hears no selector
-  pub else_did : IsArms p i K.Otherwise → (env₁ : State) (new : List ℕ) (j : ℕ) → j ≡ child_of p i 1 → (r : Result Walk Refusal) → UnwindDid t p tab env env₁ old new j n w r
-      → ArmsDid t p tab env env₁ old new s i n w r
+  pub else_did : IsArms p i K.Otherwise → (env₁ : State) (new : List ℕ) (j : ℕ) → j ≡ child_of p i 1 → (r : Result Walk Refusal) → UnwindDid vs t p env env₁ old new j n w r
+      → ArmsDid vs t p env env₁ old new s chosen i n w r
   else_did kind env₁ new j ej r d =
       record {
         kept = d.kept;
@@ -66,7 +62,7 @@ module _ (t p tab : List ℕ) (env : State) (s : Stand.Selector) (i n w : ℕ) (
 
   module _ (kind : IsArms p i K.Arm) (mid : List ℕ) (jl : ℕ) (ejl : jl ≡ child_of p i 1) where
     abbrev Given : Expr → Type 0
-    Given v = plain_of vs env DINT (T.expr_at t p s.node) ≡ given v
+    Given v = plain_of vs env DINT chosen ≡ given v
 
     abbrev tests : Expr → Expr
     tests v = tests_of (selecting s v) (T.labels_at p jl)
@@ -95,13 +91,13 @@ module _ (t p tab : List ℕ) (env : State) (s : Stand.Selector) (i n w : ℕ) (
         (kind.list t ∙ ap (λ k. S.arm (T.labels_at p k) (T.front_at t p (child_of p i 2) S.done) (T.arms_at t p (child_of p i 3))) (sym ejl)))
 
     arm_node : (env₁ : State) (new : List ℕ) (y : Result Walk Refusal) → Moves env env₁ old new n w y
-        → (Inside (length env) vs → length env ≡ length (cells_of vs) → (v : Expr) → Given v → said new y ≡ whole v) → ArmsDid t p tab env env₁ old new s i n w y
+        → (Inside (length env) vs → length env ≡ length (cells_of vs) → (v : Expr) → Given v → said new y ≡ whole v) → ArmsDid vs t p env env₁ old new s chosen i n w y
     arm_node env₁ new y m e = record { kept = m.kept; long = m.long; same = m.same; goes = m.goes; is = e }
 
     abbrev Test : Result Walk Refusal → Type 0
-    Test c = ArmTestDid vs env old mid s (T.expr_at t p s.node) (T.labels_at p jl) n w c
+    Test c = ArmTestDid vs env old mid s chosen (T.labels_at p jl) n w c
 
-    pub test_bad : (e : Refusal) → Test (Err e) → ArmsDid t p tab env env old mid s i n w (Err e)
+    pub test_bad : (e : Refusal) → Test (Err e) → ArmsDid vs t p env env old mid s chosen i n w (Err e)
     test_bad e test =
         arm_node env mid (Err e) (record { kept = refl; long = test.long; same = test.same; goes = tt })
         (λ ins size v g. sym (ap (λ o. o >>= λ m. branches v (list m)) (refused_of _ (weighed v) e (test.tested ins v g))) ∙ from_test v)
@@ -112,7 +108,7 @@ module _ (t p tab : List ℕ) (env : State) (s : Stand.Selector) (i n w : ℕ) (
           let g = test.goes in
           record { long = test.long; same = test.same; more = g.0; root = g.1; heavy = g.2; grown = g.4 }
 
-      from_left : (y : Result Walk Refusal) → UnwindDid t p tab env env₁ mid mid₁ ja c.count c.weight y
+      from_left : (y : Result Walk Refusal) → UnwindDid vs t p env env₁ mid mid₁ ja c.count c.weight y
           → Inside (length env) vs → length env ≡ length (cells_of vs) → (v : Expr) → Given v → branches v (said mid₁ y) ≡ whole v
       from_left y left ins size v g =
           let list_is : list c.weight ≡ said mid₁ y =
@@ -121,24 +117,24 @@ module _ (t p tab : List ℕ) (env : State) (s : Stand.Selector) (i n w : ℕ) (
           sym (ap (λ o. o >>= λ m. branches v (list m)) (tested mid (tests v) (weighed v) c (test.tested ins v g)).0 ∙ ap (branches v) list_is)
           ∙ from_test v
 
-      pub left_bad : (e : Refusal) → UnwindDid t p tab env env₁ mid mid₁ ja c.count c.weight (Err e) → ArmsDid t p tab env env₁ old mid₁ s i n w (Err e)
+      pub left_bad : (e : Refusal) → UnwindDid vs t p env env₁ mid mid₁ ja c.count c.weight (Err e) → ArmsDid vs t p env env₁ old mid₁ s chosen i n w (Err e)
       left_bad e left = arm_node env₁ mid₁ (Err e) (left_moves tried (unwind_moves left)) (from_left (Err e) left)
 
-      module _ (a : Walk) (left : UnwindDid t p tab env env₁ mid mid₁ ja c.count c.weight (Ok a)) (env₂ : State) (mid₂ : List ℕ) (jb : ℕ) (ejb : jb ≡ child_of p i 3) where
-        right_is : (y : Result Walk Refusal) → ArmsDid t p tab env₁ env₂ mid₁ mid₂ s jb a.count a.weight y
+      module _ (a : Walk) (left : UnwindDid vs t p env env₁ mid mid₁ ja c.count c.weight (Ok a)) (env₂ : State) (mid₂ : List ℕ) (jb : ℕ) (ejb : jb ≡ child_of p i 3) where
+        right_is : (y : Result Walk Refusal) → ArmsDid vs t p env₁ env₂ mid₁ mid₂ s chosen jb a.count a.weight y
             → Inside (length env) vs → length env ≡ length (cells_of vs) → (v : Expr) → Given v → rest v a.weight ≡ said mid₂ y
         right_is y right ins size v g =
-            let d = subst (λ u. ArmsDid t p tab u env₂ mid₁ mid₂ s jb a.count a.weight y) left.kept right in
+            let d = subst (λ u. ArmsDid vs t p u env₂ mid₁ mid₂ s chosen jb a.count a.weight y) left.kept right in
             sym (d.is ins size v g ∙ ap (λ k. unwind vs (T.arms_at t p k) env (selecting s v) a.weight) ejb)
 
-        pub right_bad : (e : Refusal) → ArmsDid t p tab env₁ env₂ mid₁ mid₂ s jb a.count a.weight (Err e) → ArmsDid t p tab env env₂ old mid₂ s i n w (Err e)
+        pub right_bad : (e : Refusal) → ArmsDid vs t p env₁ env₂ mid₁ mid₂ s chosen jb a.count a.weight (Err e) → ArmsDid vs t p env env₂ old mid₂ s chosen i n w (Err e)
         right_bad e right =
             arm_node env₂ mid₂ (Err e) (right_moves tried (unwind_moves left) (arms_moves right))
             (λ ins size v g.
             right_answers tried (unwind_moves left) mid₂ e _ _ (tests v) (rest v) (right_is (Err e) right ins size v g) ∙ from_left (Ok a) left ins size v g)
 
-        pub arm_did : (b : Walk) → ArmsDid t p tab env₁ env₂ mid₁ mid₂ s jb a.count a.weight (Ok b) → (cells : ℕ) → cells ≡ length env₂
-            → (new : List ℕ) (r : Result Walk Refusal) → JoinedDid mid₂ new cells s.place c.root a.root b r → ArmsDid t p tab env env₂ old new s i n w r
+        pub arm_did : (b : Walk) → ArmsDid vs t p env₁ env₂ mid₁ mid₂ s chosen jb a.count a.weight (Ok b) → (cells : ℕ) → cells ≡ length env₂
+            → (new : List ℕ) (r : Result Walk Refusal) → JoinedDid mid₂ new cells s.place c.root a.root b r → ArmsDid vs t p env env₂ old new s chosen i n w r
         arm_did b right cells ecells new r joined =
             arm_node env₂ new r (joined_moves tried (unwind_moves left) (arms_moves right) joined)
             (λ ins size v g.

@@ -17,7 +17,6 @@ use Rattle.paper.specs.Unwinding.{Unwound, unwound, heavier, no_selector, cell_i
 use Rattle.tree.specs.Nodes.{child_of}
 use Rattle.tree.specs.Trees.{expr_at}
 use Rattle.tree.proofs.Decodes.{same_less, same_trans}
-use Rattle.variables.specs.Table.{listed_in}
 use Rattle.unwind.specs.declared.parts.Part.{Part}
 use Rattle.unwind.specs.declared.lists.Walk.{Walk}
 use Rattle.constants.specs.declared.Celled.{Celled}
@@ -25,10 +24,7 @@ use Rattle.unwind.specs.Parts.{PlainDid, CellDid}
 use Rattle.unwind.specs.Walks.{WalkDid, assigning, AssignedDid, assign_of, assign_at, behind, Front}
 use Rattle.unwind.proofs.Emits.{ends_of}
 
-module _ (t p tab : List ℕ) (env : State) (i n w x : ℕ) (ex : x ≡ child_of p i 1) (old : List ℕ) where
-  abbrev vs : List Variable
-  vs = listed_in t p tab
-
+module _ (vs : List Variable) (t p : List ℕ) (env : State) (i n w x : ℕ) (ex : x ≡ child_of p i 1) (old : List ℕ) where
   -- from the target and the right side
   abbrev from : Answer Cell → Answer Unwound
   from o =
@@ -53,7 +49,7 @@ module _ (t p tab : List ℕ) (env : State) (i n w x : ℕ) (ex : x ≡ child_of
         let type_is : c.ty ≡ type_in vs DINT X = at.cell.1 DINT ∙ ap (λ j. type_in vs DINT (expr_at t p j)) ex in
         ap (assigning (first_word X) cell w) (e ∙ ap₂ (λ u j. plain_of vs env u (expr_at t p j)) type_is ey)
 
-    pub assign_did : (v : Part) → PlainDid t p tab env c.ty y old mid n (Ok v) → (q : ℕ) → q ≡ first_word (expr_at t p x)
+    pub assign_did : (v : Part) → PlainDid vs t p env c.ty y old mid n (Ok v) → (q : ℕ) → q ≡ first_word (expr_at t p x)
         → (new : List ℕ) (r : Result Walk Refusal) → AssignedDid mid new q cell w v r → n ≤ 4 * w → WalkDid vs (length env) old new n w (assign_at vs t p env i w) r
     assign_did v d q eq new r a l =
         let g = ends_of mid n d.own v d.parted in

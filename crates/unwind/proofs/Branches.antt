@@ -8,6 +8,8 @@ use Rattle.std.specs.Prelude.{Result, Ok, Err, IfOk}
 use Rattle.std.proofs.lemmas.Result.{IfOk-weaker}
 use Rattle.paper.specs.declared.Refusal.{Refusal}
 use Rattle.paper.specs.Refusals.{Answer, ◌>>=◌}
+use Rattle.paper.specs.Source as S
+use Rattle.paper.specs.Names.{Variable}
 use Rattle.paper.specs.Plain.{Expr, State}
 use Rattle.paper.specs.Unwinding.{Unwound}
 use Rattle.tree.specs.Nodes.{Same}
@@ -27,11 +29,11 @@ pub record Moves (env env₁ : State) (old new : List ℕ) (n w : ℕ) (r : Resu
   pub same : Same n old new
   pub goes : IfOk r (Goes n w)
 
-pub unwind_moves : {t p tab : List ℕ} {env env₁ : State} {old new : List ℕ} {i n w : ℕ} {r : Result Walk Refusal} → UnwindDid t p tab env env₁ old new i n w r
+pub unwind_moves : {vs : List Variable} {t p : List ℕ} {env env₁ : State} {old new : List ℕ} {i n w : ℕ} {r : Result Walk Refusal} → UnwindDid vs t p env env₁ old new i n w r
     → Moves env env₁ old new n w r
 unwind_moves d = record { kept = d.kept; long = d.long; same = d.same; goes = d.goes }
 
-pub arms_moves : {t p tab : List ℕ} {env env₁ : State} {old new : List ℕ} {s : Selector} {i n w : ℕ} {r : Result Walk Refusal} → ArmsDid t p tab env env₁ old new s i n w r
+pub arms_moves : {vs : List Variable} {t p : List ℕ} {env env₁ : State} {old new : List ℕ} {s : Selector} {e : S.Expr} {i n w : ℕ} {r : Result Walk Refusal} → ArmsDid vs t p env env₁ old new s e i n w r
     → Moves env env₁ old new n w r
 arms_moves d = record { kept = d.kept; long = d.long; same = d.same; goes = d.goes }
 

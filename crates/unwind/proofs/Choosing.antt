@@ -18,7 +18,6 @@ use Rattle.tree.specs.Nodes.{word_of, child_of, Same}
 use Rattle.tree.specs.Kinds.{IsStatement}
 use Rattle.tree.specs.declared.kinds.Statement.TheVariants as K
 use Rattle.tree.specs.Trees as T
-use Rattle.variables.specs.Table.{listed_in}
 use Rattle.plain.specs.Flat.{expr_at}
 use Rattle.unwind.specs.declared.parts.Part.{Part}
 use Rattle.unwind.specs.declared.lists.Walk.{Walk}
@@ -47,12 +46,9 @@ part_light {vs} {size} {old} {mid} {n} {o} {u} {v} d w l k f =
 
 -- ---- the IF
 
-module _ (t p tab : List ℕ) (env : State) (i n w : ℕ) (old : List ℕ) (kind : IsStatement p i K.Choice)
+module _ (vs : List Variable) (t p : List ℕ) (env : State) (i n w : ℕ) (old : List ℕ) (kind : IsStatement p i K.Choice)
     (j q : ℕ) (ej : j ≡ child_of p i 2) (eq : q ≡ word_of p j 3)
     (mid : List ℕ) (c : ℕ) (ec : c ≡ child_of p i 1) where
-  abbrev vs : List Variable
-  vs = listed_in t p tab
-
   abbrev place : ℕ
   place = word_of p (child_of p i 2) 3
 
@@ -72,7 +68,7 @@ module _ (t p tab : List ℕ) (env : State) (i n w : ℕ) (old : List ℕ) (kind
   place_is = eq ∙ ap (λ k. word_of p k 3) ej
 
   choice_node : (o : Answer Expr) → (Inside (length env) vs → o ≡ plain_of vs env DINT (T.expr_at t p c)) → (env₁ : State) (new : List ℕ) (y : Result Walk Refusal)
-      → Moves env env₁ old new n w y → (Inside (length env) vs → length env ≡ length (cells_of vs) → said new y ≡ from o) → UnwindDid t p tab env env₁ old new i n w y
+      → Moves env env₁ old new n w y → (Inside (length env) vs → length env ≡ length (cells_of vs) → said new y ≡ from o) → UnwindDid vs t p env env₁ old new i n w y
   choice_node o own env₁ new y m e =
       record {
         kept = m.kept;
@@ -88,18 +84,18 @@ module _ (t p tab : List ℕ) (env : State) (i n w : ℕ) (old : List ℕ) (kind
   stops : (e : Refusal) → length mid ≡ length old → Same n old mid → Moves env env old mid n w (Err e)
   stops e long same = record { kept = refl; long = long; same = same; goes = tt }
 
-  pub test_refused : (e : Refusal) → PlainDid t p tab env DINT c old mid n (Err e) → UnwindDid t p tab env env old mid i n w (Err e)
+  pub test_refused : (e : Refusal) → PlainDid vs t p env DINT c old mid n (Err e) → UnwindDid vs t p env env old mid i n w (Err e)
   test_refused e test =
       choice_node test.own test.is env mid (Err e) (stops e test.long test.same) (λ ins size. part_refused mid n test.own e test.parted _)
 
-  module _ (v : Part) (test : PlainDid t p tab env DINT c old mid n (Ok v)) where
+  module _ (v : Part) (test : PlainDid vs t p env DINT c old mid n (Ok v)) where
     good : (x : Expr) × (test.own ≡ given x) × Ends mid n x v
     good = ends_of mid n test.own v test.parted
 
     abbrev x : Expr
     x = good.0
 
-    pub test_heavy : (e : Refusal) → e ≡ refusal TooHeavy q → 3000 < w + v.parts → UnwindDid t p tab env env old mid i n w (Err e)
+    pub test_heavy : (e : Refusal) → e ≡ refusal TooHeavy q → 3000 < w + v.parts → UnwindDid vs t p env env old mid i n w (Err e)
     test_heavy e ee l =
         choice_node test.own test.is env mid (Err e) (stops e test.long test.same)
         (λ ins size.
@@ -118,7 +114,7 @@ module _ (t p tab : List ℕ) (env : State) (i n w : ℕ) (old : List ℕ) (kind
           let k = part_light test w (omega arith) low fits in
           record { long = test.long; same = test.same; more = test.part.more; root = omega arith; heavy = omega arith; grown = omega arith }
 
-      from_left : (y : Result Walk Refusal) → UnwindDid t p tab env env₁ mid mid₁ ja v.count m y
+      from_left : (y : Result Walk Refusal) → UnwindDid vs t p env env₁ mid mid₁ ja v.count m y
           → Inside (length env) vs → length env ≡ length (cells_of vs) → branches x (said mid₁ y) ≡ from test.own
       from_left y left ins size =
           ap (branches x)
@@ -127,24 +123,24 @@ module _ (t p tab : List ℕ) (env : State) (i n w : ℕ) (old : List ℕ) (kind
           ∙ light place (parts x) w (λ m. branches x (list 1 m)) (omega (arith, parts_is))
           ∙ sym (ap from good.1)
 
-      pub left_refused : (e : Refusal) → UnwindDid t p tab env env₁ mid mid₁ ja v.count m (Err e) → UnwindDid t p tab env env₁ old mid₁ i n w (Err e)
+      pub left_refused : (e : Refusal) → UnwindDid vs t p env env₁ mid mid₁ ja v.count m (Err e) → UnwindDid vs t p env env₁ old mid₁ i n w (Err e)
       left_refused e left = choice_node test.own test.is env₁ mid₁ (Err e) (left_moves tried (unwind_moves left)) (from_left (Err e) left)
 
-      module _ (a : Walk) (left : UnwindDid t p tab env env₁ mid mid₁ ja v.count m (Ok a)) (env₂ : State) (mid₂ : List ℕ) (jb : ℕ) (ejb : jb ≡ child_of p j 2) where
-        right_is : (y : Result Walk Refusal) → UnwindDid t p tab env₁ env₂ mid₁ mid₂ jb a.count a.weight y
+      module _ (a : Walk) (left : UnwindDid vs t p env env₁ mid mid₁ ja v.count m (Ok a)) (env₂ : State) (mid₂ : List ℕ) (jb : ℕ) (ejb : jb ≡ child_of p j 2) where
+        right_is : (y : Result Walk Refusal) → UnwindDid vs t p env₁ env₂ mid₁ mid₂ jb a.count a.weight y
             → Inside (length env) vs → length env ≡ length (cells_of vs) → list 2 a.weight ≡ said mid₂ y
         right_is y right ins size =
-            let d = subst (λ u. UnwindDid t p tab u env₂ mid₁ mid₂ jb a.count a.weight y) left.kept right in
+            let d = subst (λ u. UnwindDid vs t p u env₂ mid₁ mid₂ jb a.count a.weight y) left.kept right in
             sym (ap (λ k. unwind vs (T.front_at t p k S.done) env no_selector a.weight) (ejb ∙ ap (λ k. child_of p k 2) ej))
             ∙ front_done vs env (T.front_at t p jb) a.weight (said mid₂ y) (d.front ins size) no_selector
 
-        pub right_refused : (e : Refusal) → UnwindDid t p tab env₁ env₂ mid₁ mid₂ jb a.count a.weight (Err e) → UnwindDid t p tab env env₂ old mid₂ i n w (Err e)
+        pub right_refused : (e : Refusal) → UnwindDid vs t p env₁ env₂ mid₁ mid₂ jb a.count a.weight (Err e) → UnwindDid vs t p env env₂ old mid₂ i n w (Err e)
         right_refused e right =
             choice_node test.own test.is env₂ mid₂ (Err e) (right_moves tried (unwind_moves left) (unwind_moves right))
             (λ ins size. right_answers tried (unwind_moves left) mid₂ e _ _ x (list 2) (right_is (Err e) right ins size) ∙ from_left (Ok a) left ins size)
 
-        pub choice_did : (b : Walk) → UnwindDid t p tab env₁ env₂ mid₁ mid₂ jb a.count a.weight (Ok b) → (cells : ℕ) → cells ≡ length env₂
-            → (new : List ℕ) (r : Result Walk Refusal) → JoinedDid mid₂ new cells q v.count a.root b r → UnwindDid t p tab env env₂ old new i n w r
+        pub choice_did : (b : Walk) → UnwindDid vs t p env₁ env₂ mid₁ mid₂ jb a.count a.weight (Ok b) → (cells : ℕ) → cells ≡ length env₂
+            → (new : List ℕ) (r : Result Walk Refusal) → JoinedDid mid₂ new cells q v.count a.root b r → UnwindDid vs t p env env₂ old new i n w r
         choice_did b right cells ecells new r joined =
             choice_node test.own test.is env₂ new r (joined_moves tried (unwind_moves left) (unwind_moves right) joined)
             (λ ins size.

@@ -1,98 +1,118 @@
--- The plain form of the expression of a node, from those of its children.
-use mathlib.Core.Path.{◌≡◌, refl, sym, ap, ◌∙◌}
-use mathlib.Core.Bool.{Bool, true, false}
+-- The plain form of the expression of a node, and its type where one is offered, from those of its children.
+use mathlib.Core.Path.{◌≡◌, refl, sym, ap}
+use mathlib.Core.Logic.{◌⊎◌, inl, inr}
+use mathlib.Core.Bool.{Bool, false}
 use mathlib.Core.List.{List}
-use Prim.Native.Nat.{ℕ, ◌-◌, ◌/◌, ◌%◌, ◌≤◌, ◌<◌}
-use native.Mathlib.Omega.{arith}
-use borrow.Author.Tests.{ltb-true, ltb-false, eqb-true, eqb-false}
-use lib.Dec.{eqb, ltb}
-use lib.ListN.{get_or}
+use Prim.Native.Nat.{ℕ}
 use Rattle.paper.specs.declared.Ty.{Ty}
 use Rattle.paper.specs.declared.Ty.TheVariants.{Bool as BOOL, Dint as DINT}
-use Rattle.paper.specs.declared.Op.TheVariants.{Or}
+use Rattle.paper.specs.declared.Op.{Op}
 use Rattle.paper.specs.Refusals.{Answer, given, ◌>>=◌}
 use Rattle.paper.specs.Names as Names
-use Rattle.paper.specs.Heights.{first_word}
-use Rattle.paper.specs.Typing.{type_in, operand_type}
+use Rattle.paper.specs.Typing.{type_of, type_in, operand_type}
 use Rattle.paper.specs.Plain.{Expr, State, number, truth, read, minus, complement, binary, conversion}
 use Rattle.paper.specs.Unwinding.{bracket_of, cell_in, plain_of}
-use Rattle.tree.specs.Nodes.{word_of, kind_of, child_of}
-use Rattle.tree.specs.Kinds.{IsExpression}
+use Rattle.tree.specs.Nodes.{word_of}
+use Rattle.tree.specs.Kinds.{operand, expression_of, IsExpression}
 use Rattle.tree.specs.declared.kinds.Expression.{Expression}
 use Rattle.tree.specs.declared.kinds.Expression.TheVariants.{Nothing, Number, Truth, Variable, Element, Minus, Complement, Brackets, Conversion, Binary}
-use Rattle.paper.specs.declared.Op.{Op}
-use Rattle.tree.specs.Trees.{types, operators, place_at, whole_at, number_form, expr_forms, expr_at}
-use Rattle.unwind.proofs.ByKind.{first, second, expr_kind, expr_binary, expr_none, of_two}
+use Rattle.tree.specs.Trees.{place_at, whole_at, expr_at}
 
-module _ (t p : List ℕ) (i w : ℕ) (k : kind_of p i ≡ w) where
-  module _ (vs : List Names.Variable) (env : State) (u : Ty) where
+module _ (vs : List Names.Variable) (t p : List ℕ) (i : ℕ) (u : Ty) where
+  module _ (env : State) where
     abbrev plain : Answer Expr
     plain = plain_of vs env u (expr_at t p i)
 
+    -- by what the node is
+    by_view : (e : Expression) → IsExpression p i e → plain ≡ plain_of vs env u (expression_of p i t e)
+    by_view e v = ap (plain_of vs env u) (v.tree t)
+
     -- ---- leaves
 
-    pub number_plain : 0 < w → w < 3 → plain ≡ given (number u (whole_at p i))
-    unfolding expr_forms plain_of
-    number_plain l m =
-        of_two (λ v. kind_of p i ≡ v → plain ≡ given (number u (whole_at p i))) 1 2 w
-        (λ e. ap (plain_of vs env u) (expr_kind t p i 1 number_form e refl))
-        (λ e. ap (plain_of vs env u) (expr_kind t p i 2 number_form e refl))
-        (λ d. omega arith) k
+    pub nil_plain : IsExpression p i Nothing → plain ≡ given (truth false)
+    unfolding plain_of
+    nil_plain v = by_view Nothing v
 
-    pub true_plain : w ≡ 4 → plain ≡ given (truth true)
-    unfolding expr_forms plain_of
-    true_plain e = ap (plain_of vs env u) (expr_kind t p i 4 _ (k ∙ e) refl)
+    pub number_plain : IsExpression p i Number → plain ≡ given (number u (whole_at p i))
+    unfolding plain_of
+    number_plain v = by_view Number v
 
-    -- nil, FALSE, and what is no expression
-    pub false_plain : (0 < w → 2 < w) → (w ≡ 4 → ⊥) → (5 ≤ w → 24 < w) → plain ≡ given (truth false)
-    unfolding expr_forms plain_of
-    false_plain l non h = go (ltb w 5) refl (eqb w 0) refl
-      where
-        go : (a : Bool) → ltb w 5 ≡ a → (b : Bool) → eqb w 0 ≡ b → plain ≡ given (truth false)
-        go true e true f = ap (plain_of vs env u) (expr_kind t p i 0 _ (k ∙ eqb-true w 0 f) refl)
-        go true e false f =
-            let m : w < 5 = ltb-true w 5 e in
-            let n : 2 < w = l (omega (arith, eqb-false w 0 f)) in
-            let z : w ≡ 3 = omega arith in
-            ap (plain_of vs env u) (expr_kind t p i 3 _ (k ∙ z) refl)
-        go false e b f = ap (plain_of vs env u) (expr_none t p i w k (h (omega (arith, ltb-false w 5 e))))
+    pub truth_plain : (b : Bool) → IsExpression p i (Truth b) → plain ≡ given (truth b)
+    unfolding plain_of
+    truth_plain b v = by_view (Truth b) v
 
-    pub read_plain : 4 < w → w < 7 → plain ≡ (cell_in vs env (expr_at t p i) >>= λ c. given (read c))
-    unfolding expr_forms plain_of
-    read_plain l m =
-        of_two (λ v. kind_of p i ≡ v → plain ≡ (cell_in vs env (expr_at t p i) >>= λ c. given (read c))) 5 6 w
-        (λ e. rw (expr_kind t p i 5 _ e refl) refl)
-        (λ e. rw (expr_kind t p i 6 _ e refl) refl)
-        (λ d. omega arith) k
+    abbrev Read : Type 0
+    Read = plain ≡ (cell_in vs env (expr_at t p i) >>= λ c. given (read c))
+
+    variable_plain : IsExpression p i Variable → Read
+    unfolding plain_of
+    variable_plain v = rw (v.tree t) refl
+
+    element_plain : IsExpression p i Element → Read
+    unfolding plain_of
+    element_plain v = rw (v.tree t) refl
+
+    pub read_plain : (e : Expression) → IsExpression p i e → (e ≡ Variable) ⊎ (e ≡ Element) → Read
+    read_plain e v h = elim h [ inl w ↦ variable_plain (rw w at v) | inr w ↦ element_plain (rw w at v) ]
 
     -- ---- operators
 
     abbrev one : Ty → Answer Expr
-    one v = plain_of vs env v (first t p i)
+    one v = plain_of vs env v (operand p i t 1)
 
-    pub minus_plain : w ≡ 7 → plain ≡ (one u >>= λ x. given (minus (type_in vs u (first t p i)) x))
-    unfolding expr_forms plain_of
-    minus_plain e = ap (plain_of vs env u) (expr_kind t p i 7 _ (k ∙ e) refl)
-
-    pub complement_plain : w ≡ 8 → plain ≡ (one DINT >>= λ x. given (complement x))
-    unfolding expr_forms plain_of
-    complement_plain e = ap (plain_of vs env u) (expr_kind t p i 8 _ (k ∙ e) refl)
-
-    pub brackets_plain : w ≡ 9 → plain ≡ one u
-    unfolding expr_forms plain_of
-    brackets_plain e = ap (plain_of vs env u) (expr_kind t p i 9 _ (k ∙ e) refl)
-
-    pub conversion_plain : w ≡ 10
-        → plain ≡ (one (get_or types (word_of p i 2 / 8) BOOL) >>= λ x. given (conversion (get_or types (word_of p i 2 / 8) BOOL) (get_or types (word_of p i 2 % 8) BOOL) x))
-    unfolding expr_forms plain_of
-    conversion_plain e = ap (plain_of vs env u) (expr_kind t p i 10 _ (k ∙ e) refl)
-
-    pub binary_plain : 10 < w → w < 25 → (v : Ty) → v ≡ operand_type vs u (get_or operators (w - 11) Or) (first t p i) (second t p i)
-        → plain ≡ (one v >>= λ x. plain_of vs env v (second t p i) >>= λ y. given (binary (get_or operators (w - 11) Or) v x y))
+    pub minus_plain : IsExpression p i Minus → plain ≡ (one u >>= λ x. given (minus (type_in vs u (operand p i t 1)) x))
     unfolding plain_of
-    binary_plain l m v e =
-        ap (plain_of vs env u) (expr_binary t p i w k l m)
-        ∙ ap (λ v. one v >>= λ x. plain_of vs env v (second t p i) >>= λ y. given (binary (get_or operators (w - 11) Or) v x y)) (sym e)
+    minus_plain v = by_view Minus v
+
+    pub complement_plain : IsExpression p i Complement → plain ≡ (one DINT >>= λ x. given (complement x))
+    unfolding plain_of
+    complement_plain v = by_view Complement v
+
+    pub brackets_plain : IsExpression p i Brackets → plain ≡ one u
+    unfolding plain_of
+    brackets_plain v = by_view Brackets v
+
+    pub conversion_plain : (a b : Ty) → IsExpression p i (Conversion a b) → plain ≡ (one a >>= λ x. given (conversion a b x))
+    unfolding plain_of
+    conversion_plain a b v = by_view (Conversion a b) v
+
+    pub binary_plain : (o : Op) → IsExpression p i (Binary o)
+        → plain ≡ (one (operand_type vs u o (operand p i t 1) (operand p i t 2)) >>= λ x. plain_of vs env (operand_type vs u o (operand p i t 1) (operand p i t 2)) (operand p i t 2) >>= λ y. given (binary o (operand_type vs u o (operand p i t 1) (operand p i t 2)) x y))
+    unfolding plain_of
+    binary_plain o v = by_view (Binary o) v
+
+  -- ---- types
+
+  in_view : (e : Expression) → IsExpression p i e → type_in vs u (expression_of p i t e) ≡ type_in vs u (expr_at t p i)
+  in_view e v = sym (ap (type_in vs u) (v.tree t))
+
+  pub nil_in : IsExpression p i Nothing → BOOL ≡ type_in vs u (expr_at t p i)
+  unfolding type_of type_in
+  nil_in v = in_view Nothing v
+
+  pub number_in : IsExpression p i Number → u ≡ type_in vs u (expr_at t p i)
+  unfolding type_of type_in
+  number_in v = in_view Number v
+
+  pub truth_in : (b : Bool) → IsExpression p i (Truth b) → BOOL ≡ type_in vs u (expr_at t p i)
+  unfolding type_of type_in
+  truth_in b v = in_view (Truth b) v
+
+  pub minus_in : IsExpression p i Minus → type_in vs u (operand p i t 1) ≡ type_in vs u (expr_at t p i)
+  unfolding type_of type_in
+  minus_in v = in_view Minus v
+
+  pub complement_in : IsExpression p i Complement → BOOL ≡ type_in vs u (expr_at t p i)
+  unfolding type_of type_in
+  complement_in v = in_view Complement v
+
+  pub brackets_in : IsExpression p i Brackets → type_in vs u (operand p i t 1) ≡ type_in vs u (expr_at t p i)
+  unfolding type_of type_in
+  brackets_in v = in_view Brackets v
+
+  pub conversion_in : (a b : Ty) → IsExpression p i (Conversion a b) → b ≡ type_in vs u (expr_at t p i)
+  unfolding type_of type_in
+  conversion_in a b v = in_view (Conversion a b) v
 
 -- ---- places
 

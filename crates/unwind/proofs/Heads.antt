@@ -25,7 +25,6 @@ use Rattle.tree.specs.Nodes.{child_of}
 use Rattle.tree.specs.Trees.{place_at, name_at, expr_at}
 use Rattle.constants.proofs.Types.{type_of_name_lem}
 use Rattle.value.proofs.Residues.{modulus_small, wrapped_below}
-use Rattle.variables.specs.Table.{listed_in}
 use Rattle.unwind.specs.Parts.{Inside}
 use Rattle.unwind.specs.Loops.{Worked, head_in, head_at, Small, HeadDid}
 use Rattle.unwind.proofs.Insides.{none_some, variable_inside}
@@ -123,15 +122,12 @@ module _ (vs : List Variable) (env : State) (n : Name) (A B C : S.Expr) where
 
 -- ---- at a node
 
-module _ (t p tab : List ℕ) (env : State) (i h g n x y z : ℕ)
+module _ (vs : List Variable) (t p : List ℕ) (env : State) (i h g n x y z : ℕ)
     (eh : h ≡ child_of p i 1) (eg : g ≡ child_of p h 1) (en : n ≡ place_at p h) (ex : x ≡ child_of p h 2) (ey : y ≡ child_of p g 1) (ez : z ≡ child_of p g 2) where
-  abbrev vs : List Variable
-  vs = listed_in t p tab
-
   abbrev of : ℕ → S.Expr
   of j = expr_at t p j
 
-  head_at_lem : head_in vs env (name_at t n) (of y) (of z) (of x) ≡ head_at t p tab env i
+  head_at_lem : head_in vs env (name_at t n) (of y) (of z) (of x) ≡ head_at vs t p env i
   head_at_lem = rw (ex, ey, ez, en, eg, eh)
 
   abbrev named-cell : Option Cell
@@ -140,34 +136,34 @@ module _ (t p tab : List ℕ) (env : State) (i h g n x y z : ℕ)
   abbrev here : Option Worked
   here = head_in vs env (name_at t n) (of y) (of z) (of x)
 
-  none_did : (Inside (length env) vs → none ≡ here) → HeadDid t p tab env i None
+  none_did : (Inside (length env) vs → none ≡ here) → HeadDid vs t p env i None
   none_did h = record { stands = tt; is = λ ins. h ins ∙ head_at_lem }
 
   module _ (cell : ℕ) (ty : Ty) (ecell : some (record { 0 = cell }) ≡ named-cell) (et : ty ≡ type_of_name vs (name_at t n)) where
-    pub no_step_did : none ≡ whole_value vs env ty (of x) → HeadDid t p tab env i None
+    pub no_step_did : none ≡ whole_value vs env ty (of x) → HeadDid vs t p env i None
     no_step_did h = none_did (λ ins. no_step vs env (name_at t n) (of y) (of z) (of x) ty _ ecell et h)
 
     module _ (by : ℤ) (eby : some by ≡ whole_value vs env ty (of x)) where
-      pub no_start_did : none ≡ whole_value vs env ty (of y) → HeadDid t p tab env i None
+      pub no_start_did : none ≡ whole_value vs env ty (of y) → HeadDid vs t p env i None
       no_start_did h = none_did (λ ins. no_start vs env (name_at t n) (of y) (of z) (of x) ty _ ecell et by eby h)
 
       module _ (from : ℤ) (efrom : some from ≡ whole_value vs env ty (of y)) where
-        pub no_end_did : none ≡ whole_value vs env ty (of z) → HeadDid t p tab env i None
+        pub no_end_did : none ≡ whole_value vs env ty (of z) → HeadDid vs t p env i None
         no_end_did h = none_did (λ ins. no_end vs env (name_at t n) (of y) (of z) (of x) ty _ ecell et by eby from efrom h)
 
         module _ (to : ℤ) (eto : some to ≡ whole_value vs env ty (of z)) where
           small : Small by × Small from × Small to
           small = all_small vs env (name_at t n) (of y) (of z) (of x) ty _ ecell et by eby from efrom to eto
 
-          pub beyond_did : length env ≤ cell → HeadDid t p tab env i None
+          pub beyond_did : length env ≤ cell → HeadDid vs t p env i None
           beyond_did l = none_did (λ ins. absurd (omega (arith, variable_inside vs (length env) ins (record { 0 = cell }) (name_at t n) (sym ecell))))
 
-          pub zero_did : of_z w64 by ≡ 0 → HeadDid t p tab env i None
+          pub zero_did : of_z w64 by ≡ 0 → HeadDid vs t p env i None
           zero_did e =
               none_did (λ ins. step_zero vs env (name_at t n) (of y) (of z) (of x) ty _ ecell et by eby from efrom to eto (is_zero_bits by (small_fits by small.0) e))
 
           pub head_did : (q : ℕ) → q ≡ place_at p i → cell < length env → (of_z w64 by ≡ 0 → ⊥)
-              → HeadDid t p tab env i (Some (record { place = q; cell = cell; ty = ty; by = back by; from = back from; to = back to }))
+              → HeadDid vs t p env i (Some (record { place = q; cell = cell; ty = ty; by = back by; from = back from; to = back to }))
           head_did q eq l e =
               let steps = not_zero_bits by e in
               rw (back_small by small.0, back_small from small.1, back_small to small.2)

@@ -1,5 +1,4 @@
 pub mod Emits
-pub mod ByKind
 pub mod Exprs
 pub mod Settling
 pub mod Insides

@@ -1,12 +1,10 @@
 -- The plain form of a node, written behind those of its children.
 use mathlib.Core.Path.{◌≡◌, refl, sym, ap, ap₂, subst, ◌∙◌}
-use mathlib.Core.Bool.{Bool, true, false}
+use mathlib.Core.Bool.{Bool, false}
 use mathlib.Core.Option.{none, some}
 use mathlib.Core.List.{List}
-use Prim.Native.Nat.{ℕ, suc, ◌+◌, ◌-◌, ◌/◌, ◌%◌, ◌≤◌, ◌<◌, min}
+use Prim.Native.Nat.{ℕ, suc, ◌+◌, ◌*◌, ◌/◌, ◌%◌, ◌≤◌, ◌<◌, min}
 use native.Mathlib.Omega.{arith}
-use borrow.Author.Tests.{eqb-true, eqb-false}
-use lib.Dec.{eqb}
 use lib.ListN.{length, get_or}
 use Rattle.paper.specs.declared.Ty.{Ty}
 use Rattle.paper.specs.declared.Ty.TheVariants.{Bool as BOOL}
@@ -21,21 +19,26 @@ use Rattle.paper.specs.Typing.{type_in, operand_type}
 use Rattle.paper.specs.Plain.{Expr, State, parts, read, minus, complement, binary, conversion}
 use Rattle.paper.specs.Meaning.{cell_of}
 use Rattle.paper.specs.Unwinding.{bracket_of, plain_of}
-use Rattle.tree.specs.Nodes.{word_of, kind_of, child_of, written}
+use Rattle.tree.specs.Nodes.{child_of, written}
 use Rattle.tree.specs.Trees.{types, operators, expr_at}
-use Rattle.variables.specs.Table.{listed_in}
 use Rattle.plain.specs.Flat as F
 use Rattle.plain.proofs.Forms.{put_read, put_minus, put_complement, put_conversion, put_binary}
 use Rattle.unwind.specs.declared.parts.Part.{Part}
-use Rattle.unwind.specs.Parts.{Holds, Inside, Emitted, PartDid, PlainDid, CellDid, ReadDid, offered_at, resulting_at}
+use Rattle.unwind.specs.Parts.{Holds, Inside, Emitted, PartDid, PlainDid, CellDid, ReadDid}
 use Rattle.paper.specs.Source as S
+use Rattle.paper.specs.declared.Op.{Op}
+use Rattle.paper.specs.declared.Ty.TheVariants.{Int as INT, Uint as UINT, Dint as DINT, Udint as UDINT}
+use Rattle.paper.specs.Plain.{number, truth}
+use Rattle.tree.specs.Kinds.{operand, IsExpression}
+use Rattle.tree.specs.Trees.{whole_at}
+use Rattle.tree.specs.declared.kinds.Expression.TheVariants.{Nothing, Number, Truth, Minus, Complement, Brackets, Conversion, Binary}
+use Rattle.unwind.specs.Walks.{Spelt}
 use Rattle.constants.specs.declared.Celled.{Celled}
 use Rattle.constants.specs.Answers.{Offers}
-use Rattle.unwind.proofs.ByKind.{first, second, expr_binary}
 use Rattle.constants.proofs.Types.{two_in, offered_as, offered_in}
 use Rattle.unwind.proofs.Emits.{type_tag, spelt_one, leaf_did, one_did, two_did, refused_did, stopped, stopped_second}
-use Rattle.unwind.proofs.Exprs.{minus_plain, complement_plain, brackets_plain, conversion_plain, binary_plain}
-use Rattle.unwind.proofs.Settling.{one_in, own_plain}
+use Rattle.unwind.proofs.Exprs.{nil_plain, number_plain, truth_plain, minus_plain, complement_plain, brackets_plain, conversion_plain, binary_plain, nil_in, number_in, truth_in, minus_in, complement_in, brackets_in, conversion_in}
+use Rattle.unwind.proofs.Settling.{own_plain}
 use Rattle.unwind.proofs.Insides.{cell_inside, cell_given, cell_refused}
 
 -- another answer that is the same, and another type
@@ -59,173 +62,150 @@ module _ (vs : List Variable) (env : State) (e : S.Expr) where
   cell_did c h ty l = record { cell = (l, ty); is = λ ins. sym (cell_given vs env e _ h) }
 
 -- the read of it
-module _ (t p tab : List ℕ) (env : State) (i : ℕ) (old : List ℕ) (n : ℕ) where
+module _ (vs : List Variable) (t p : List ℕ) (env : State) (i : ℕ) (old : List ℕ) (n : ℕ) where
   abbrev there : S.Expr
   there = expr_at t p i
 
-  pub unread_did : (f : Refusal) → CellDid (listed_in t p tab) env there (Err f) → ReadDid t p tab env i old old n (Err f)
+  pub unread_did : (f : Refusal) → CellDid vs env there (Err f) → ReadDid vs t p env i old old n (Err f)
   unread_did f d u =
-      refused_did (listed_in t p tab) (length env) old n _ _ f (λ ins. sym (ap (λ o. o >>= λ c. given (read c)) (d.is ins)))
+      refused_did vs (length env) old n _ _ f (λ ins. sym (ap (λ o. o >>= λ c. given (read c)) (d.is ins)))
 
-  pub read_did : (c : Celled) → CellDid (listed_in t p tab) env there (Ok c) → (new : List ℕ) (m : ℕ) (r : Part) → Emitted old new n 5 c.cell 0 0 m
-      → r.count ≡ m → r.parts ≡ min 3001 1 → r.ty ≡ c.ty → ReadDid t p tab env i old new n (Ok r)
+  pub read_did : (c : Celled) → CellDid vs env there (Ok c) → (new : List ℕ) (m : ℕ) (r : Part) → Emitted old new n 5 c.cell 0 0 m
+      → r.count ≡ m → r.parts ≡ min 3001 1 → r.ty ≡ c.ty → ReadDid vs t p env i old new n (Ok r)
   unfolding parts
   read_did c d new m r e last one ty u =
       let x = read (record { 0 = c.cell }) in
       leaf_did old new n m x r (spelt_one old new n 5 c.cell 0 0 m x e (λ h. put_read old (n + 1) _ 0 0 (omega arith) h)) last one refl
-      (listed_in t p tab) (length env) _ _ (λ ins. sym (ap (λ o. o >>= λ c. given (read c)) (d.is ins))) (ty ∙ d.cell.1 u)
+      vs (length env) _ _ (λ ins. sym (ap (λ o. o >>= λ c. given (read c)) (d.is ins))) (ty ∙ d.cell.1 u)
+
+-- ---- leaves
+
+module _ (vs : List Variable) (t p : List ℕ) (env : State) (u : Ty) (i : ℕ) (old new : List ℕ) (n : ℕ) where
+  pub nil_did : IsExpression p i Nothing → (r : Part) → Spelt old new n 1 (truth false) r.count → r.parts ≡ min 3001 1 → r.ty ≡ BOOL → PlainDid vs t p env u i old new n (Ok r)
+  unfolding parts
+  nil_did v r e one ty =
+      leaf_did old new n r.count (truth false) r e refl one refl vs (length env) _ _ (λ ins. nil_plain vs t p i u env v) (ty ∙ nil_in vs t p i u v)
+
+  pub truth_did : (b : Bool) → IsExpression p i (Truth b) → (r : Part) → Spelt old new n 1 (truth b) r.count → r.parts ≡ min 3001 1 → r.ty ≡ BOOL → PlainDid vs t p env u i old new n (Ok r)
+  unfolding parts
+  truth_did b v r e one ty =
+      leaf_did old new n r.count (truth b) r e refl one refl vs (length env) _ _ (λ ins. truth_plain vs t p i u env b v) (ty ∙ truth_in vs t p i u b v)
+
+  pub number_did : IsExpression p i Number → (m : ℕ) (r : Part) → Spelt old new n 1 (number u (whole_at p i)) m → r.count ≡ m → r.parts ≡ min 3001 1 → r.ty ≡ u → PlainDid vs t p env u i old new n (Ok r)
+  unfolding parts
+  number_did v m r e last one ty =
+      leaf_did old new n m _ r e last one refl vs (length env) _ _ (λ ins. number_plain vs t p i u env v) (ty ∙ number_in vs t p i u v)
 
 -- ---- one operand
 
-module _ (t p tab : List ℕ) (env : State) (u : Ty) (i k a w : ℕ) (v : Ty) (ek : kind_of p i ≡ k)
-    (ea : a ≡ child_of p i 1) (ew : w ≡ word_of p i 2) (ev : v ≡ offered_at k w u) where
-  abbrev vs : List Variable
-  vs = listed_in t p tab
+-- the two types of a conversion, from one word
+tag_small : (t : Ty) → tag t < 8
+tag_small BOOL = omega arith
+tag_small INT = omega arith
+tag_small UINT = omega arith
+tag_small DINT = omega arith
+tag_small UDINT = omega arith
 
-  -- the type offered, by the kind
-  at_kind : (m : ℕ) → k ≡ m → offered_at m w u ≡ v
-  at_kind m e = sym (ev ∙ ap (λ k. offered_at k w u) e)
+module _ (a b : Ty) (w : ℕ) (ew : w ≡ 8 * tag a + tag b) where
+  first_type : get_or types (w / 8) BOOL ≡ a
+  first_type = let e : w / 8 ≡ tag a = omega (arith, ew, tag_small a, tag_small b) in ap (λ m. get_or types m BOOL) e ∙ type_tag a
 
-  -- the type of the whole, from the operand's
-  type_is : 6 < k → k < 11 → resulting_at k w (type_in vs v (expr_at t p a)) ≡ type_in vs u (expr_at t p i)
-  type_is l m = ap₂ (λ v j. resulting_at k w (type_in vs v (expr_at t p j))) ev ea ∙ one_in t p i k ek vs u l m w ew
+  second_type : get_or types (w % 8) BOOL ≡ b
+  second_type = let e : w % 8 ≡ tag b = omega (arith, ew, tag_small a, tag_small b) in ap (λ m. get_or types m BOOL) e ∙ type_tag b
 
-  -- the whole, from the operand
-  abbrev From : (Expr → Answer Expr) → Type 0
-  From f = plain_of vs env u (expr_at t p i) ≡ (plain_of vs env v (expr_at t p a) >>= f)
+module _ (vs : List Variable) (t p : List ℕ) (env : State) (u : Ty) (i : ℕ) (old mid : List ℕ) (n : ℕ) where
+  -- the operand, where v is offered
+  abbrev Inner : Ty → Result Part Refusal → Type 0
+  Inner v r = PlainDid vs t p env v (child_of p i 1) old mid n r
 
-  minus_is : k ≡ 7 → From (λ y. given (minus (type_in vs u (expr_at t p a)) y))
-  minus_is e =
-      minus_plain t p i k ek vs env u e
-      ∙ ap₂ (λ v j. plain_of vs env v (expr_at t p j) >>= λ y. given (minus (type_in vs u (expr_at t p j)) y)) (at_kind 7 e) (sym ea)
+  abbrev Whole : List ℕ → Result Part Refusal → Type 0
+  Whole new r = PlainDid vs t p env u i old new n r
 
-  complement_is : k ≡ 8 → From (λ y. given (complement y))
-  complement_is e =
-      complement_plain t p i k ek vs env u e ∙ ap₂ (λ v j. plain_of vs env v (expr_at t p j) >>= λ y. given (complement y)) (at_kind 8 e) (sym ea)
+  pub brackets_did : IsExpression p i Brackets → (r : Result Part Refusal) → Inner u r → Whole mid r
+  brackets_did v r d = did_as vs (length env) old mid n _ _ _ _ r (brackets_plain vs t p i u env v) (sym (brackets_in vs t p i u v)) d
 
-  brackets_is : k ≡ 9 → plain_of vs env u (expr_at t p i) ≡ plain_of vs env v (expr_at t p a)
-  brackets_is e = brackets_plain t p i k ek vs env u e ∙ ap₂ (λ v j. plain_of vs env v (expr_at t p j)) (at_kind 9 e) (sym ea)
+  module _ (f : Refusal) where
+    pub minus_stop : IsExpression p i Minus → Inner u (Err f) → Whole mid (Err f)
+    minus_stop v d = did_as vs (length env) old mid n _ _ _ _ (Err f) (minus_plain vs t p i u env v) refl (stopped _ _ d)
 
-  abbrev converted : Expr → Expr
-  converted y = conversion (get_or types (w / 8) BOOL) (get_or types (w % 8) BOOL) y
+    pub complement_stop : IsExpression p i Complement → Inner DINT (Err f) → Whole mid (Err f)
+    complement_stop v d = did_as vs (length env) old mid n _ _ _ _ (Err f) (complement_plain vs t p i u env v) refl (stopped _ _ d)
 
-  conversion_is : k ≡ 10 → From (λ y. given (converted y))
-  conversion_is e =
-      conversion_plain t p i k ek vs env u e
-      ∙ ap₂ (λ q j. plain_of vs env (get_or types (q / 8) BOOL) (expr_at t p j) >>= λ y. given (conversion (get_or types (q / 8) BOOL) (get_or types (q % 8) BOOL) y)) (sym ew) (sym ea)
-      ∙ ap (λ v. plain_of vs env v (expr_at t p a) >>= λ y. given (converted y)) (at_kind 10 e)
+    pub conversion_stop : (a b : Ty) → IsExpression p i (Conversion a b) → Inner a (Err f) → Whole mid (Err f)
+    conversion_stop a b v d = did_as vs (length env) old mid n _ _ _ _ (Err f) (conversion_plain vs t p i u env a b v) refl (stopped _ _ d)
 
-  module _ (old mid : List ℕ) (n : ℕ) where
-    -- the operand was refused
-    pub unary_stop : (f : Refusal) → PlainDid t p tab env v a old mid n (Err f) → 6 < k → k < 11 → PlainDid t p tab env u i old mid n (Err f)
-    unary_stop f d l m = go (eqb k 7) refl (eqb k 8) refl (eqb k 9) refl
-      where
-        stop : (g : Expr → Answer Expr) → From g → PlainDid t p tab env u i old mid n (Err f)
-        stop g e = did_as vs (length env) old mid n _ _ _ _ (Err f) e refl (stopped g (type_in vs u (expr_at t p i)) d)
+  module _ (x : Part) (new : List ℕ) (w : ℕ) (r : Part) (counted : r.parts ≡ min 3001 (x.parts + 1)) where
+    abbrev Over : ℕ → Type 0
+    Over k = Emitted mid new x.count k x.count w (tag x.ty) r.count
 
-        go : (b : Bool) → eqb k 7 ≡ b → (c : Bool) → eqb k 8 ≡ c → (d : Bool) → eqb k 9 ≡ d → PlainDid t p tab env u i old mid n (Err f)
-        go true e b g c h = stop _ (minus_is (eqb-true k 7 e))
-        go false e true g c h = stop _ (complement_is (eqb-true k 8 g))
-        go false e false g true h = record { long = d.long; same = d.same; part = tt; own = d.own; parted = d.parted; is = λ ins. d.is ins ∙ sym (brackets_is (eqb-true k 9 h)) }
-        go false e false g false h =
-            let a : k ≡ 7 → ⊥ = eqb-false k 7 e in
-            let b : k ≡ 8 → ⊥ = eqb-false k 8 g in
-            let c : k ≡ 9 → ⊥ = eqb-false k 9 h in
-            stop _ (conversion_is (omega arith))
+    one_as : (k : ℕ) (v : Ty) (g : Expr → Expr) → Over k → ((e : Expr) → parts (g e) ≡ suc (parts e))
+        → ((j : ℕ) → 0 < j → Holds mid j → x.count < j → F.expr_at (written mid j k x.count w (tag x.ty)) j ≡ g (F.expr_at mid x.count))
+        → plain_of vs env u (expr_at t p i) ≡ (plain_of vs env v (operand p i t 1) >>= λ e. given (g e)) → r.ty ≡ type_in vs u (expr_at t p i)
+        → Inner v (Ok x) → Whole new (Ok r)
+    one_as k v g wr z put eq ty d =
+        did_as vs (length env) old new n _ _ _ _ (Ok r) eq refl
+        (one_did mid new n k w (tag x.ty) r.count x r wr refl counted g z put vs (length env) old _ _ _ ty d)
 
-    module _ (x : Part) (d : PlainDid t p tab env v a old mid n (Ok x)) where
-      pub brackets_did : k ≡ 9 → PlainDid t p tab env u i old mid n (Ok x)
-      brackets_did e =
-          did_as vs (length env) old mid n _ _ _ _ (Ok x) (brackets_is e)
-          (sym (type_is (omega arith) (omega arith)) ∙ ap (λ k. resulting_at k w (type_in vs v (expr_at t p a))) e) d
+    pub minus_did : IsExpression p i Minus → Inner u (Ok x) → Over 7 → r.ty ≡ x.ty → Whole new (Ok r)
+    unfolding parts
+    minus_did v d wr ty =
+        one_as 7 u (minus (type_in vs u (operand p i t 1))) wr (λ e. refl)
+        (λ j s f l. put_minus mid j x.count w (tag x.ty) s f l ∙ ap (λ q. minus q (F.expr_at mid x.count)) (type_tag x.ty ∙ d.part.typed))
+        (minus_plain vs t p i u env v) (ty ∙ d.part.typed ∙ minus_in vs t p i u v) d
 
-      module _ (new : List ℕ) (c m : ℕ) (r : Part) (ec : c ≡ tag x.ty) (l : 6 < k) (h : k < 11) (wr : Emitted mid new x.count k x.count w c m)
-          (last : r.count ≡ m) (counted : r.parts ≡ min 3001 (x.parts + 1)) (ty : r.ty ≡ resulting_at k w x.ty) where
-        one_as : (v : ℕ) (g : Expr → Expr) → k ≡ v → ((e : Expr) → parts (g e) ≡ suc (parts e))
-            → ((j : ℕ) → 0 < j → Holds mid j → x.count < j → F.expr_at (written mid j v x.count w c) j ≡ g (F.expr_at mid x.count))
-            → From (λ e. given (g e)) → PlainDid t p tab env u i old new n (Ok r)
-        one_as v g e z put eq =
-            did_as vs (length env) old new n _ _ _ _ (Ok r) eq refl
-            (one_did mid new n v w c m x r (subst (λ k. Emitted mid new x.count k x.count w c m) e wr) last counted g z put vs (length env) old _ _ _
-            (ty ∙ ap (resulting_at k w) d.part.typed ∙ type_is l h) d)
+    pub complement_did : IsExpression p i Complement → Inner DINT (Ok x) → Over 8 → r.ty ≡ BOOL → Whole new (Ok r)
+    unfolding parts
+    complement_did v d wr ty =
+        one_as 8 DINT complement wr (λ e. refl) (λ j s f l. put_complement mid j x.count w (tag x.ty) s f l)
+        (complement_plain vs t p i u env v) (ty ∙ complement_in vs t p i u v) d
 
-        minus_did : k ≡ 7 → PlainDid t p tab env u i old new n (Ok r)
-        unfolding parts
-        minus_did e =
-            one_as 7 (minus (type_in vs u (expr_at t p a))) e (λ e. refl)
-            (λ j s f l.
-            put_minus mid j x.count w c s f l
-            ∙ ap (λ q. minus q (F.expr_at mid x.count))
-            (ap (λ m. get_or types m BOOL) ec ∙ type_tag x.ty ∙ d.part.typed ∙ ap (λ v. type_in vs v (expr_at t p a)) (sym (at_kind 7 e))))
-            (minus_is e)
-
-        complement_did : k ≡ 8 → PlainDid t p tab env u i old new n (Ok r)
-        unfolding parts
-        complement_did e = one_as 8 complement e (λ e. refl) (λ j s f l. put_complement mid j x.count w c s f l) (complement_is e)
-
-        conversion_did : k ≡ 10 → PlainDid t p tab env u i old new n (Ok r)
-        unfolding parts
-        conversion_did e = one_as 10 converted e (λ e. refl) (λ j s f l. put_conversion mid j x.count w c s f l) (conversion_is e)
-
-        pub unary_did : (k ≡ 9 → ⊥) → PlainDid t p tab env u i old new n (Ok r)
-        unary_did non = go (eqb k 7) refl (eqb k 8) refl
-          where
-            go : (b : Bool) → eqb k 7 ≡ b → (d : Bool) → eqb k 8 ≡ d → PlainDid t p tab env u i old new n (Ok r)
-            go true e d f = minus_did (eqb-true k 7 e)
-            go false e true f = complement_did (eqb-true k 8 f)
-            go false e false f =
-                let a : k ≡ 7 → ⊥ = eqb-false k 7 e in
-                let b : k ≡ 8 → ⊥ = eqb-false k 8 f in
-                conversion_did (omega arith)
+    pub conversion_did : (a b : Ty) → IsExpression p i (Conversion a b) → Inner a (Ok x) → w ≡ 8 * tag a + tag b → Over 10 → r.ty ≡ b → Whole new (Ok r)
+    unfolding parts
+    conversion_did a b v d ew wr ty =
+        one_as 10 a (conversion a b) wr (λ e. refl)
+        (λ j s f l.
+        put_conversion mid j x.count w (tag x.ty) s f l
+        ∙ ap₂ (λ c d. conversion c d (F.expr_at mid x.count)) (first_type a b w ew) (second_type a b w ew))
+        (conversion_plain vs t p i u env a b v) (ty ∙ conversion_in vs t p i u a b v) d
 
 -- ---- two
 
-module _ (t p tab : List ℕ) (env : State) (u : Ty) (i k a : ℕ) (v : Ty) (ek : kind_of p i ≡ k) (low : 10 < k) (high : k < 25)
-    (ea : a ≡ child_of p i 1) (ev : Offers (listed_in t p tab) u (get_or operators (k - 11) Or) (first t p i) (second t p i) v) where
+module _ (vs : List Variable) (t p : List ℕ) (env : State) (u : Ty) (i : ℕ) (o : Op) (kind : IsExpression p i (Binary o)) (v : Ty)
+    (ev : Offers vs u o (operand p i t 1) (operand p i t 2) v) where
   -- the type of both
   abbrev both : Ty
-  both = operand_type (listed_in t p tab) u (get_or operators (k - 11) Or) (first t p i) (second t p i)
+  both = operand_type vs u o (operand p i t 1) (operand p i t 2)
 
-  binary_is : (b : ℕ) → b ≡ child_of p i 2
-      → plain_of (listed_in t p tab) env u (expr_at t p i)
-      ≡ (plain_of (listed_in t p tab) env v (expr_at t p a) >>= λ x. plain_of (listed_in t p tab) env both (expr_at t p b) >>= λ y. given (binary (get_or operators (k - 11) Or) both x y))
-  binary_is b eb =
-      let vs = listed_in t p tab in
-      let from : Answer Expr → ℕ → Answer Expr = λ o b. o >>= λ x. plain_of vs env both (expr_at t p b) >>= λ y. given (binary (get_or operators (k - 11) Or) both x y) in
-      binary_plain t p i k ek vs env u low high both refl
-      ∙ ap₂ from
-      (sym (offered_as vs u _ (first t p i) (second t p i) v ev (λ v. plain_of vs env v (first t p i)) (own_plain vs env v both (first t p i)))
-      ∙ ap (λ j. plain_of vs env v (expr_at t p j)) (sym ea))
-      (sym eb)
+  binary_is : plain_of vs env u (expr_at t p i)
+      ≡ (plain_of vs env v (operand p i t 1) >>= λ x. plain_of vs env both (operand p i t 2) >>= λ y. given (binary o both x y))
+  binary_is =
+      binary_plain vs t p i u env o kind
+      ∙ ap (λ a. a >>= λ x. plain_of vs env both (operand p i t 2) >>= λ y. given (binary o both x y))
+      (sym (offered_as vs u o (operand p i t 1) (operand p i t 2) v ev (λ v. plain_of vs env v (operand p i t 1)) (own_plain vs env v both (operand p i t 1))))
 
   module _ (old front : List ℕ) (n : ℕ) where
-    pub binary_stop : (f : Refusal) → PlainDid t p tab env v a old front n (Err f) → PlainDid t p tab env u i old front n (Err f)
-    binary_stop f d =
-        did_as (listed_in t p tab) (length env) old front n _ _ _ _ (Err f) (binary_is (child_of p i 2) refl) refl (stopped _ _ d)
+    pub binary_stop : (f : Refusal) → PlainDid vs t p env v (child_of p i 1) old front n (Err f) → PlainDid vs t p env u i old front n (Err f)
+    binary_stop f d = did_as vs (length env) old front n _ _ _ _ (Err f) binary_is refl (stopped _ _ d)
 
-    module _ (x : Part) (d : PlainDid t p tab env v a old front n (Ok x)) (mid : List ℕ) (b : ℕ) (eb : b ≡ child_of p i 2) where
+    module _ (x : Part) (d : PlainDid vs t p env v (child_of p i 1) old front n (Ok x)) (mid : List ℕ) where
       ty_both : x.ty ≡ both
-      ty_both =
-          d.part.typed ∙ ap (λ j. type_in (listed_in t p tab) v (expr_at t p j)) ea ∙ offered_in (listed_in t p tab) u _ (first t p i) (second t p i) v ev
+      ty_both = d.part.typed ∙ offered_in vs u o (operand p i t 1) (operand p i t 2) v ev
 
-      pub binary_stop_second : (f : Refusal) → PlainDid t p tab env x.ty b front mid x.count (Err f) → PlainDid t p tab env u i old mid n (Err f)
+      pub binary_stop_second : (f : Refusal) → PlainDid vs t p env x.ty (child_of p i 2) front mid x.count (Err f) → PlainDid vs t p env u i old mid n (Err f)
       binary_stop_second f d₂ =
-          did_as (listed_in t p tab) (length env) old mid n _ _ _ _ (Err f) (binary_is b eb) refl
-          (stopped_second _ _ d (subst (λ s. PlainDid t p tab env s b front mid x.count (Err f)) ty_both d₂))
+          did_as vs (length env) old mid n _ _ _ _ (Err f) binary_is refl
+          (stopped_second _ _ d (subst (λ s. PlainDid vs t p env s (child_of p i 2) front mid x.count (Err f)) ty_both d₂))
 
-      pub binary_did : (new : List ℕ) (c m : ℕ) (y r : Part) → c ≡ tag x.ty → PlainDid t p tab env x.ty b front mid x.count (Ok y)
-          → Emitted mid new y.count k x.count y.count c m → r.count ≡ m → r.parts ≡ min 3001 (x.parts + y.parts + 1) → r.ty ≡ gives (sort_of (get_or operators (k - 11) Or)) x.ty
-          → PlainDid t p tab env u i old new n (Ok r)
+      pub binary_did : (new : List ℕ) (k c m : ℕ) (y r : Part) → k < 14 → get_or operators k Or ≡ o → c ≡ tag x.ty
+          → PlainDid vs t p env x.ty (child_of p i 2) front mid x.count (Ok y) → Emitted mid new y.count (11 + k) x.count y.count c m → r.count ≡ m
+          → r.parts ≡ min 3001 (x.parts + y.parts + 1) → r.ty ≡ gives (sort_of o) x.ty → PlainDid vs t p env u i old new n (Ok r)
       unfolding parts
-      binary_did new c m y r ec d₂ wr last counted ty =
-          let vs = listed_in t p tab in
-          let o = k - 11 in
-          let e : k ≡ 11 + o = omega arith in
-          did_as vs (length env) old new n _ _ _ _ (Ok r) (binary_is b eb)
-          (ap (type_in vs u) (expr_binary t p i k ek low high) ∙ sym (two_in vs _ _ (first t p i) (second t p i) u) ∙ ap (gives (sort_of (get_or operators o Or))) (sym ty_both) ∙ sym ty)
-          (two_did front mid new n (11 + o) c m x y r (subst (λ k. Emitted mid new y.count k x.count y.count c m) e wr) last counted
-          (binary (get_or operators o Or) both) (λ d e. refl)
-          (λ j s f l m.
-          put_binary mid j x.count y.count c s f o (omega arith) l m
-          ∙ ap (λ q. binary (get_or operators o Or) q (F.expr_at mid x.count) (F.expr_at mid y.count)) (ap (λ m. get_or types m BOOL) ec ∙ type_tag x.ty ∙ ty_both))
-          vs (length env) old _ _ _ _ r.ty refl d (subst (λ s. PlainDid t p tab env s b front mid x.count (Ok y)) ty_both d₂))
+      binary_did new k c m y r l ek ec d₂ wr last counted ty =
+          did_as vs (length env) old new n _ _ _ _ (Ok r) binary_is
+          (ap (type_in vs u) (kind.tree t) ∙ sym (two_in vs _ o (operand p i t 1) (operand p i t 2) u) ∙ ap (gives (sort_of o)) (sym ty_both) ∙ sym ty)
+          (two_did front mid new n (11 + k) c m x y r wr last counted
+          (binary o both) (λ d e. refl)
+          (λ j s f g h.
+          put_binary mid j x.count y.count c s f k l g h
+          ∙ ap₂ (λ o q. binary o q (F.expr_at mid x.count) (F.expr_at mid y.count)) ek (ap (λ m. get_or types m BOOL) ec ∙ type_tag x.ty ∙ ty_both))
+          vs (length env) old _ _ _ _ r.ty refl d (subst (λ s. PlainDid vs t p env s (child_of p i 2) front mid x.count (Ok y)) ty_both d₂))

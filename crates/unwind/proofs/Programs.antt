@@ -33,9 +33,9 @@ pub start : (n : ℕ) → n ≤ 64 → take n (zeros 64) ≡ zeros n
 start n l = take_zeros n 64 l
 
 pub program_did : (t p tab : List ℕ) (cells i j : ℕ) (env env₁ : State) (old new : List ℕ) (r : Result Walk Refusal) → j ≡ child_of p i 2 → env ≡ zeros cells
-    → UnwindDid t p tab env env₁ old new j 0 0 r → ProgramDid t p tab cells i old new r
+    → UnwindDid (listed_in t p tab) t p env env₁ old new j 0 0 r → ProgramDid t p tab cells i old new r
 program_did t p tab cells i j env env₁ old new r ej e did =
-    let d = subst (λ s. UnwindDid t p tab s env₁ old new j 0 0 r) e did in
+    let d = subst (λ s. UnwindDid (listed_in t p tab) t p s env₁ old new j 0 0 r) e did in
     let s = zeros_length cells in
     let vs = listed_in t p tab in
     record {

@@ -30,7 +30,6 @@ use Rattle.tree.specs.declared.kinds.Statement.TheVariants as K
 use Rattle.tree.specs.Trees as T
 use Rattle.tree.specs.Trees.{place_at, name_at, front_forms}
 use Rattle.tree.proofs.Frames.{child_less}
-use Rattle.variables.specs.Table.{listed_in}
 use Rattle.plain.proofs.Lists.{list_nil}
 use Rattle.unwind.specs.declared.lists.Walk.{Walk}
 use Rattle.unwind.specs.declared.loops.Head.{Head}
@@ -90,17 +89,14 @@ module _ (q : ℕ) (t : Ty) (cell : Cell) (body : ℤ → ℕ → Answer Unwound
 
 -- ---- at a node
 
-module _ (t p tab : List ℕ) (env : State) (i : ℕ) (old : List ℕ) (n w : ℕ) (kind : IsStatement p i K.Loop) where
-  abbrev vs : List Variable
-  vs = listed_in t p tab
-
+module _ (vs : List Variable) (t p : List ℕ) (env : State) (i : ℕ) (old : List ℕ) (n w : ℕ) (kind : IsStatement p i K.Loop) where
   abbrev body : S.Stmts
   body = T.front_at t p (child_of p i 2) S.done
 
   abbrev own : Option Worked → Answer Unwound
   own = loop_of vs env (place_at p i) body w
 
-  head_front : (o : Option Worked) (r : Answer Unwound) → o ≡ head_at t p tab env i → own o ≡ r → Front vs env (T.front_at t p i) w r
+  head_front : (o : Option Worked) (r : Answer Unwound) → o ≡ head_at vs t p env i → own o ≡ r → Front vs env (T.front_at t p i) w r
   head_front o r e q =
       let j = child_of p i 1 in
       let g = child_of p j 1 in
@@ -109,7 +105,7 @@ module _ (t p tab : List ℕ) (env : State) (i : ℕ) (old : List ℕ) (n w : �
       (loop_front_lem vs env (place_at p i) body w (place_at p j) (name_at t (place_at p j)) (T.expr_at t p (child_of p g 1)) (T.expr_at t p (child_of p g 2)) (T.expr_at t p (child_of p j 2))))
 
   -- 8 at the FOR
-  pub no_head : HeadDid t p tab env i None → (q : ℕ) → q ≡ place_at p i → UnwindDid t p tab env env old old i n w (Err (refusal BadWalk q))
+  pub no_head : HeadDid vs t p env i None → (q : ℕ) → q ≡ place_at p i → UnwindDid vs t p env env old old i n w (Err (refusal BadWalk q))
   no_head d q eq =
       record {
         kept = refl;
@@ -119,7 +115,7 @@ module _ (t p tab : List ℕ) (env : State) (i : ℕ) (old : List ℕ) (n w : �
         front = λ ins size. head_front none _ (d.is ins) (ap (refused BadWalk) (sym eq));
       }
 
-  module _ {h : Head} (d : HeadDid t p tab env i (Some h)) where
+  module _ {h : Head} (d : HeadDid vs t p env i (Some h)) where
     stands : Stands (place_at p i) (length env) h
     stands = d.stands
 
@@ -143,7 +139,7 @@ module _ (t p tab : List ℕ) (env : State) (i : ℕ) (old : List ℕ) (n w : �
 
     -- no pass: one assignment
     pub no_pass : {new : List ℕ} {r : Result Walk Refusal} → passed (back h.by) (back h.to) (back h.from) ≡ true
-        → SetDid old new h (back h.from) n w r → UnwindDid t p tab env env old new i n w r
+        → SetDid old new h (back h.from) n w r → UnwindDid vs t p env env old new i n w r
     no_pass {new} {r} e d' =
         let s = subst (λ z. SetDid old new h z n w r) from_back d' in
         record {
@@ -163,25 +159,24 @@ module _ (t p tab : List ℕ) (env : State) (i : ℕ) (old : List ℕ) (n w : �
       pub passes_fall : 4194304 * (3001 - w) + 32 * c < 4194304 * (3001 - w) + 32 * i
       passes_fall = omega (arith, child_less p i 2 kind.some)
 
-      pub passes_ready : Walks p env old i n w → TurnsReady p env old h (back h.from) c n w 0
+      pub passes_ready : Walks env old i n w → TurnsReady env old h (back h.from) c n w 0
       passes_ready r =
           let low = child_less p i 2 kind.some in
-          subst (λ z. TurnsReady p env old h z c n w 0) (sym from_back)
+          subst (λ z. TurnsReady env old h z c n w 0) (sym from_back)
           (record {
-            pool = omega (arith, r.0, low, ec);
-            low = omega (arith, r.1, low, ec);
-            cells = r.3;
+            low = omega (arith, r.0, low, ec);
+            cells = r.2;
             inside = stands.inside;
             steps = stands.steps;
             small = stands.small;
             within = at_once false within;
             first = omega arith;
-            ready = (omega (arith, r.2.0), r.2.1, r.2.2, r.2.3);
+            ready = (omega (arith, r.1.0), r.1.1, r.1.2, r.1.3);
           })
 
       -- the passes, and the variable's own value in the environment again
-      pub all_passes : {env' : State} {new : List ℕ} {r : Result Walk Refusal} → TurnsDid t p tab env env' old new h (back h.from) c n w 0 r
-          → UnwindDid t p tab env (set env' h.cell (get_or env h.cell 0)) old new i n w r
+      pub all_passes : {env' : State} {new : List ℕ} {r : Result Walk Refusal} → TurnsDid vs t p env env' old new h (back h.from) c n w 0 r
+          → UnwindDid vs t p env (set env' h.cell (get_or env h.cell 0)) old new i n w r
       all_passes {env'} {new} {r} did =
           record {
             kept = s.only (get_or env h.cell 0) ∙ set-get_or env h.cell 0;
@@ -191,8 +186,8 @@ module _ (t p tab : List ℕ) (env : State) (i : ℕ) (old : List ℕ) (n w : �
             front = λ ins size. loop_did (said new r) ins (said_all ins size);
           }
         where
-          s : TurnsDid t p tab env env' old new h h.from c n w 0 r
-          s = subst (λ z. TurnsDid t p tab env env' old new h z c n w 0 r) from_back did
+          s : TurnsDid vs t p env env' old new h h.from c n w 0 r
+          s = subst (λ z. TurnsDid vs t p env env' old new h z c n w 0 r) from_back did
 
           went : (x : Walk) → Goes (n + min 1 0) w x → Goes n w x
           went x g =
@@ -204,6 +199,6 @@ module _ (t p tab : List ℕ) (env : State) (i : ℕ) (old : List ℕ) (n w : �
               let f = enough h.from h.to in
               looped_turns h.place h.ty (cell_of_head h) bodies h.by h.to h.from w stands.steps (at_once false within)
               ∙ sym (s.turned ins size f (omega arith)
-              ∙ ap (λ k. behind (record { plain = k; weight = w }) (turns_from t p tab env h c f h.from w)) (list_nil old)
-              ∙ behind_none w (turns_from t p tab env h c f h.from w)
-              ∙ ap (λ j. turns_from t p tab env h j f h.from w) ec)
+              ∙ ap (λ k. behind (record { plain = k; weight = w }) (turns_from vs t p env h c f h.from w)) (list_nil old)
+              ∙ behind_none w (turns_from vs t p env h c f h.from w)
+              ∙ ap (λ j. turns_from vs t p env h j f h.from w) ec)

@@ -5,7 +5,7 @@ use Prim.Native.Nat.{ℕ}
 use Rattle.paper.specs.declared.Ty.TheVariants.{Dint as DINT}
 use Rattle.std.specs.Prelude.{Result, Ok, Err}
 use Rattle.paper.specs.declared.Refusal.{Refusal}
-use Rattle.paper.specs.Refusals.{Answer, given, ◌>>=◌}
+use Rattle.paper.specs.Refusals.{Answer, ◌>>=◌}
 use Rattle.paper.specs.Source as S
 use Rattle.paper.specs.Names.{Variable}
 use Rattle.paper.specs.Typing.{type_in}
@@ -16,7 +16,6 @@ use Rattle.tree.specs.Kinds.{IsStatement}
 use Rattle.tree.specs.declared.kinds.Statement.TheVariants as K
 use Rattle.tree.specs.Trees as T
 use Rattle.tree.proofs.Decodes.{same_trans}
-use Rattle.variables.specs.Table.{listed_in}
 use Rattle.unwind.specs.declared.parts.Part.{Part}
 use Rattle.unwind.specs.declared.lists.Walk.{Walk}
 use Rattle.unwind.specs.declared.cases.Selector as Stand
@@ -27,11 +26,8 @@ use Rattle.unwind.proofs.Fronts.{front_as, front_is, select_front_lem}
 use Rattle.unwind.proofs.Choosing.{part_refused}
 use Rattle.unwind.proofs.Emits.{ends_of}
 
-module _ (t p tab : List ℕ) (env : State) (i n w : ℕ) (old : List ℕ) (kind : IsStatement p i K.Selection)
+module _ (vs : List Variable) (t p : List ℕ) (env : State) (i n w : ℕ) (old : List ℕ) (kind : IsStatement p i K.Selection)
     (mid : List ℕ) (c : ℕ) (ec : c ≡ child_of p i 1) where
-  abbrev vs : List Variable
-  vs = listed_in t p tab
-
   abbrev E : S.Expr
   E = T.expr_at t p (child_of p i 1)
 
@@ -45,7 +41,7 @@ module _ (t p tab : List ℕ) (env : State) (i n w : ℕ) (old : List ℕ) (kind
       front_as vs env _ (T.front_at t p i) w _ (kind.list t)
       (front_is vs env _ w _ _ (sym (e ∙ ap from (own ∙ ap (λ k. plain_of vs env DINT (T.expr_at t p k)) ec))) (select_front_lem vs env _ _ _ w))
 
-  pub selector_refused : (e : Refusal) → PlainDid t p tab env DINT c old mid n (Err e) → UnwindDid t p tab env env old mid i n w (Err e)
+  pub selector_refused : (e : Refusal) → PlainDid vs t p env DINT c old mid n (Err e) → UnwindDid vs t p env env old mid i n w (Err e)
   selector_refused e looked =
       record {
         kept = refl;
@@ -55,9 +51,9 @@ module _ (t p tab : List ℕ) (env : State) (i n w : ℕ) (old : List ℕ) (kind
         front = λ ins size. fronts mid (Err e) looked.own (looked.is ins) (part_refused mid n looked.own e looked.parted _);
       }
 
-  pub select_did : (v : Part) → PlainDid t p tab env DINT c old mid n (Ok v) → (s : Stand.Selector) → s.place ≡ T.place_at p i → s.node ≡ c → s.ty ≡ v.ty
-      → (env₁ : State) (new : List ℕ) (j : ℕ) → j ≡ child_of p i 2 → (r : Result Walk Refusal) → ArmsDid t p tab env env₁ mid new s j n w r → UnwindDid t p tab env env₁ old new i n w r
-  select_did v looked s ep en et env₁ new j ej r d =
+  pub select_did : (v : Part) → PlainDid vs t p env DINT c old mid n (Ok v) → (s : Stand.Selector) → s.place ≡ T.place_at p i → s.ty ≡ v.ty
+      → (chosen : S.Expr) → chosen ≡ T.expr_at t p c → (env₁ : State) (new : List ℕ) (j : ℕ) → j ≡ child_of p i 2 → (r : Result Walk Refusal) → ArmsDid vs t p env env₁ mid new s chosen j n w r → UnwindDid vs t p env env₁ old new i n w r
+  select_did v looked s ep et chosen is env₁ new j ej r d =
       let g = ends_of mid n looked.own v looked.parted in
       let ty : s.ty ≡ type_in vs DINT E = et ∙ looked.part.typed ∙ ap (λ k. type_in vs DINT (T.expr_at t p k)) ec in
       record {
@@ -66,10 +62,8 @@ module _ (t p tab : List ℕ) (env : State) (i n w : ℕ) (old : List ℕ) (kind
         same = same_trans old mid new n looked.same d.same;
         goes = d.goes;
         front = λ ins size.
-            let plain : plain_of vs env DINT (T.expr_at t p s.node) ≡ given g.0 =
-            ap (λ k. plain_of vs env DINT (T.expr_at t p k)) en ∙ sym (looked.is ins) ∙ g.1 in
             fronts new r looked.own (looked.is ins)
-            (d.is ins size g.0 plain
+            (d.is ins size g.0 (ap (plain_of vs env DINT) is ∙ sym (looked.is ins) ∙ g.1)
             ∙ ap (λ k. unwind vs (T.arms_at t p k) env (selecting s g.0) w) ej
             ∙ ap₂ (λ q u. unwind vs (T.arms_at t p (child_of p i 2)) env (record { place = q; plain = g.0; ty = u }) w) ep ty
             ∙ sym (ap from g.1));

@@ -10,7 +10,8 @@ use lib.IntN.{pos, neg_ℤ}
 use lib.ListN.{get_or}
 use Rattle.paper.specs.declared.Ty.{Ty}
 use Rattle.paper.specs.declared.Ty.TheVariants.{Bool as BOOL}
-use Rattle.paper.specs.declared.Op.TheVariants.{Le, And, Or}
+use Rattle.paper.specs.declared.Op.{Op}
+use Rattle.paper.specs.declared.Op.TheVariants.{Le, Ge, And, Or}
 use Rattle.paper.specs.Source.{Label, one, range}
 use Rattle.paper.specs.Types.{tag}
 use Rattle.paper.specs.Plain.{Expr, number, binary}
@@ -82,14 +83,15 @@ put_operator p m k a b c t l h ec s f x y =
     ∙ put_binary p m a b c s f (k - 11) (omega arith) x y
     ∙ ap (λ u. binary (get_or operators (k - 11) Or) u (expr_at p a) (expr_at p b)) (ap (λ m. get_or types m BOOL) ec ∙ type_tag t)
 
-pub spelt_compared : (old mid new : List ℕ) (p : List ℕ) (n s k c r i : ℕ) (sel : Selector) (root : ℕ) → root ≤ n → 10 < k → k < 25 → c ≡ tag sel.ty
-    → Spelt old mid n 1 (number sel.ty (whole_at p i)) s → Emitted mid new s k root s c r → Spelt old new n 2 (compared_with old p sel root k i) r
-spelt_compared old mid new p n s k c r i sel root l lo hi ec d e =
-    spelt_more old mid new n 1 s k root s c r _ _ d e
+pub spelt_compared : (old mid new : List ℕ) (p : List ℕ) (n s k c r i : ℕ) (o : Op) (sel : Selector) (root : ℕ) → root ≤ n → k < 14 → get_or operators k Or ≡ o → c ≡ tag sel.ty
+    → Spelt old mid n 1 (number sel.ty (whole_at p i)) s → Emitted mid new s (11 + k) root s c r → Spelt old new n 2 (compared_with old p sel root o i) r
+spelt_compared old mid new p n s k c r i o sel root l few eo ec d e =
+    spelt_more old mid new n 1 s (11 + k) root s c r _ _ d e
     (λ f h.
     let x : root < s + 1 = omega (arith, d.more) in
-    put_operator mid (s + 1) k root s c sel.ty lo hi ec (omega arith) f x (omega arith)
-    ∙ ap₂ (binary (get_or operators (k - 11) Or) sel.ty) (expr_same old mid n root d.same l) h)
+    put_binary mid (s + 1) root s c (omega arith) f k few x (omega arith)
+    ∙ ap₂ (λ o u. binary o u (expr_at mid root) (expr_at mid s)) eo (ap (λ m. get_or types m BOOL) ec ∙ type_tag sel.ty)
+    ∙ ap₂ (binary o sel.ty) (expr_same old mid n root d.same l) h)
 
 -- two expressions, and the operator of the kind k over them, on BOOL
 spelt_joined : (old m₁ m₂ new : List ℕ) (n u v a b r : ℕ) (low high : Expr) (k : ℕ) → 10 < k → k < 25 → Spelt old m₁ n u low a → Spelt m₁ m₂ a v high b
@@ -121,12 +123,12 @@ spelt_joined old m₁ m₂ new n u v a b r low high k lo hi d₁ d₂ e =
 
 module _ (p : List ℕ) (i : ℕ) (sel : Selector) (root : ℕ) (old : List ℕ) (n : ℕ) (inside : root ≤ n) where
   pub spelt_range : (m₁ m₂ new : List ℕ) (a b x y r : ℕ) → eqb (word_of p i 0) 31 ≡ true → x ≡ child_of p i 1 → y ≡ child_of p i 2
-      → Spelt old m₁ n 2 (compared_with old p sel root 19 x) a → Spelt m₁ m₂ a 2 (compared_with m₁ p sel root 18 y) b → Emitted m₂ new b 22 a b 0 r
+      → Spelt old m₁ n 2 (compared_with old p sel root Ge x) a → Spelt m₁ m₂ a 2 (compared_with m₁ p sel root Le y) b → Emitted m₂ new b 22 a b 0 r
       → Spelt old new n (label_nodes p i) (test_of (selects old sel root) (label_at p i)) r
   spelt_range m₁ m₂ new a b x y r h ex ey d₁ d₂ e =
-      let low = compared_with old p sel root 19 x in
-      let high = compared_with old p sel root 18 y in
-      let moved : compared_with m₁ p sel root 18 y ≡ high =
+      let low = compared_with old p sel root Ge x in
+      let high = compared_with old p sel root Le y in
+      let moved : compared_with m₁ p sel root Le y ≡ high =
       ap (λ s. binary Le sel.ty s (number sel.ty (whole_at p y))) (expr_same old m₁ n root d₁.same inside) in
       let all : Spelt old new n 5 (binary And BOOL low high) r = spelt_joined old m₁ m₂ new n 2 2 a b r low high 22 (omega arith) (omega arith) d₁ (subst (λ z. Spelt m₁ m₂ a 2 z b) moved d₂) e in
       rw (h, ← ex, ← ey) all

@@ -15,7 +15,6 @@ use Rattle.tree.specs.Kinds.{IsStatement}
 use Rattle.tree.specs.declared.kinds.Statement.TheVariants as K
 use Rattle.tree.specs.Trees as T
 use Rattle.tree.proofs.Decodes.{same_less, same_trans}
-use Rattle.variables.specs.Table.{listed_in}
 use Rattle.plain.specs.Flat.{list_at}
 use Rattle.plain.proofs.Frames.{list_same}
 use Rattle.plain.proofs.Lists.{list_nil}
@@ -35,12 +34,9 @@ goes_none n w r ec er ew l = record { more = omega arith; root = omega arith; he
 
 -- ---- a node
 
-module _ (t p tab : List ℕ) (env : State) (i n w : ℕ) (old : List ℕ) where
-  abbrev vs : List Variable
-  vs = listed_in t p tab
-
+module _ (vs : List Variable) (t p : List ℕ) (env : State) (i n w : ℕ) (old : List ℕ) where
   pub none_did : IsStatement p i K.Nothing → (r : Walk) → r.count ≡ n → r.root ≡ 0 → r.weight ≡ w → w ≤ 3000
-      → UnwindDid t p tab env env old old i n w (Ok r)
+      → UnwindDid vs t p env env old old i n w (Ok r)
   none_did e r ec er ew l =
       record {
         kept = refl;
@@ -53,7 +49,7 @@ module _ (t p tab : List ℕ) (env : State) (i n w : ℕ) (old : List ℕ) where
       }
 
   pub assign_node : (new : List ℕ) (r : Result Walk Refusal) → IsStatement p i K.Assignment → WalkDid vs (length env) old new n w (assign_at vs t p env i w) r
-      → UnwindDid t p tab env env old new i n w r
+      → UnwindDid vs t p env env old new i n w r
   assign_node new r l d =
       record {
         kept = refl;
@@ -74,7 +70,7 @@ module _ (t p tab : List ℕ) (env : State) (i n w : ℕ) (old : List ℕ) where
         (λ k. kind.list t k ∙ ap₂ (λ x y. T.front_at t p x (T.front_at t p y k)) (sym ej) (sym em))
         (front_two vs env (T.front_at t p j) (T.front_at t p m) w a b first second)
 
-    pub first_refused : (e : Refusal) → UnwindDid t p tab env env₁ old mid j n w (Err e) → UnwindDid t p tab env env₁ old mid i n w (Err e)
+    pub first_refused : (e : Refusal) → UnwindDid vs t p env env₁ old mid j n w (Err e) → UnwindDid vs t p env env₁ old mid i n w (Err e)
     first_refused e first =
         record {
           kept = first.kept;
@@ -86,21 +82,21 @@ module _ (t p tab : List ℕ) (env : State) (i n w : ℕ) (old : List ℕ) where
               (λ x h. let z : ◌≡◌ {A = ℕ} 0 1 = cc in absurd (omega arith));
         }
 
-    module _ (a : Walk) (first : UnwindDid t p tab env env₁ old mid j n w (Ok a)) (env₂ : State) (last : List ℕ) (m : ℕ) (em : m ≡ child_of p i 2) where
+    module _ (a : Walk) (first : UnwindDid vs t p env env₁ old mid j n w (Ok a)) (env₂ : State) (last : List ℕ) (m : ℕ) (em : m ≡ child_of p i 2) where
       -- the second walked where the first ended
-      both_front : (r : Result Walk Refusal) → UnwindDid t p tab env₁ env₂ mid last m a.count a.weight r
+      both_front : (r : Result Walk Refusal) → UnwindDid vs t p env₁ env₂ mid last m a.count a.weight r
           → Inside (length env) vs → length env ≡ length (cells_of vs) → Front vs env (T.front_at t p i) w (behind (record { plain = list_at mid a.root; weight = a.weight }) (said last r))
       both_front r second ins size =
           two_fronts (said mid (Ok a)) (said last r) m em (first.front ins size)
           (λ x h.
-          let d = subst (λ v. UnwindDid t p tab v env₂ mid last m a.count a.weight r) first.kept second in
+          let d = subst (λ v. UnwindDid vs t p v env₂ mid last m a.count a.weight r) first.kept second in
           let ew : a.weight ≡ x.weight = cc in
           subst (λ w. Front vs env (T.front_at t p m) w (said last r)) ew (d.front ins size))
 
       then_same : Same a.count mid last → Same n old last
       then_same h = same_trans old mid last n first.same (same_less mid last a.count n h first.goes.more)
 
-      pub second_refused : (e : Refusal) → UnwindDid t p tab env₁ env₂ mid last m a.count a.weight (Err e) → UnwindDid t p tab env env₂ old last i n w (Err e)
+      pub second_refused : (e : Refusal) → UnwindDid vs t p env₁ env₂ mid last m a.count a.weight (Err e) → UnwindDid vs t p env env₂ old last i n w (Err e)
       second_refused e second =
           record {
             kept = second.kept ∙ first.kept;
@@ -110,8 +106,8 @@ module _ (t p tab : List ℕ) (env : State) (i n w : ℕ) (old : List ℕ) where
             front = both_front (Err e) second;
           }
 
-      pub both_did : (b : Walk) → UnwindDid t p tab env₁ env₂ mid last m a.count a.weight (Ok b) → (new : List ℕ) (r : Walk)
-          → Linked last new b.count a.root b.root b.weight r → UnwindDid t p tab env env₂ old new i n w (Ok r)
+      pub both_did : (b : Walk) → UnwindDid vs t p env₁ env₂ mid last m a.count a.weight (Ok b) → (new : List ℕ) (r : Walk)
+          → Linked last new b.count a.root b.root b.weight r → UnwindDid vs t p env env₂ old new i n w (Ok r)
       both_did b second new r l =
           let ga : Goes n w a = first.goes in
           let gb : Goes a.count a.weight b = second.goes in

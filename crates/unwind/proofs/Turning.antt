@@ -26,7 +26,6 @@ use Rattle.paper.proofs.Residues.{nearer}
 use Rattle.tree.specs.Nodes.{Same}
 use Rattle.tree.specs.Trees as T
 use Rattle.tree.proofs.Decodes.{same_less, same_trans}
-use Rattle.variables.specs.Table.{listed_in}
 use Rattle.plain.specs.Flat.{list_at}
 use Rattle.plain.proofs.Frames.{list_same}
 use Rattle.unwind.specs.declared.lists.Walk.{Walk}
@@ -83,7 +82,7 @@ module _ (pass : ℤ → ℕ → Answer Unwound) (c b v : ℤ) (w : ℕ) where
 
 -- ---- the value as it comes back from its bits, and what the next one asks
 
-module _ {p : List ℕ} {env : State} {old : List ℕ} {h : Head} {v : ℤ} {body n w before : ℕ} (ready : TurnsReady p env old h v body n w before) where
+module _ {env : State} {old : List ℕ} {h : Head} {v : ℤ} {body n w before : ℕ} (ready : TurnsReady env old h v body n w before) where
   v_back : back v ≡ v
   v_back = back_small v ready.small.1
 
@@ -92,12 +91,9 @@ module _ {p : List ℕ} {env : State} {old : List ℕ} {h : Head} {v : ℤ} {bod
 
 -- ---- the passes as the definition has them
 
-module _ (t p tab : List ℕ) {env : State} {old : List ℕ} {h : Head} {v : ℤ} {body n w before : ℕ} (ready : TurnsReady p env old h v body n w before) where
-  abbrev vs : List Variable
-  vs = listed_in t p tab
-
+module _ (vs : List Variable) (t p : List ℕ) {env : State} {old : List ℕ} {h : Head} {v : ℤ} {body n w before : ℕ} (ready : TurnsReady env old h v body n w before) where
   abbrev in_body : ℤ → ℕ → Answer Unwound
-  in_body = body_of t p tab env h body
+  in_body = body_of vs t p env h body
 
   abbrev pass : ℤ → ℕ → Answer Unwound
   pass = pass_of h.place h.ty (cell_of_head h) in_body
@@ -107,11 +103,11 @@ module _ (t p tab : List ℕ) {env : State} {old : List ℕ} {h : Head} {v : ℤ
 
   -- where the pass refuses, all does
   refusal : (y : Why) (q f : ℕ) → nat_abs (h.to -ℤ v) < f → pass v w ≡ refused y q
-      → refused y q ≡ behind sofar (turns_from t p tab env h body f v w)
+      → refused y q ≡ behind sofar (turns_from vs t p env h body f v w)
   refusal y q f l e = sym (ap (behind sofar) (turns_stop pass h.by h.to v w f y q (omega arith) e))
 
   -- no weight left for the variable
-  pub set_stops : {new : List ℕ} {e : Refusal} → SetDid old new h (back v) n w (Err e) → TurnsDid t p tab env env old new h v body n w before (Err e)
+  pub set_stops : {new : List ℕ} {e : Refusal} → SetDid old new h (back v) n w (Err e) → TurnsDid vs t p env env old new h v body n w before (Err e)
   set_stops {new} {e} set-did =
       let d = subst (λ z. SetDid old new h z n w (Err e)) (v_back ready) set-did in
       record {
@@ -136,7 +132,7 @@ module _ (t p tab : List ℕ) {env : State} {old : List ℕ} {h : Head} {v : ℤ
     light : heavier h.place 1 w ≡ given (w + 1)
     light = weighs h.place 1 w (omega (arith, d.good))
 
-    module _ {m2 : List ℕ} {env1 : State} {r : Result Walk Refusal} (did : UnwindDid t p tab (set env h.cell e) env1 m1 m2 body s.count s.weight r) where
+    module _ {m2 : List ℕ} {env1 : State} {r : Result Walk Refusal} (did : UnwindDid vs t p (set env h.cell e) env1 m1 m2 body s.count s.weight r) where
       env_long : length env1 ≡ length env
       env_long = ap length did.kept ∙ length-set env h.cell e
 
@@ -157,7 +153,7 @@ module _ (t p tab : List ℕ) {env : State} {old : List ℕ} {h : Head} {v : ℤ
           → pass v w ≡ (said m2 r >>= λ x. unwound (assign (cell_of_head h) (number h.ty v) x.plain) x.weight)
       pass_said ins size = pass_body h.place h.ty (cell_of_head h) in_body v w (w + 1) (said m2 r) light (body_said ins size)
 
-    pub body_stops : {m2 : List ℕ} {env1 : State} {f : Refusal} → UnwindDid t p tab (set env h.cell e) env1 m1 m2 body s.count s.weight (Err f) → TurnsDid t p tab env env1 old m2 h v body n w before (Err f)
+    pub body_stops : {m2 : List ℕ} {env1 : State} {f : Refusal} → UnwindDid vs t p (set env h.cell e) env1 m1 m2 body s.count s.weight (Err f) → TurnsDid vs t p env env1 old m2 h v body n w before (Err f)
     body_stops did =
         record {
           kept = env_long did;
@@ -170,7 +166,7 @@ module _ (t p tab : List ℕ) {env : State} {old : List ℕ} {h : Head} {v : ℤ
 
     -- ---- one pass put behind those so far
 
-    module _ {m2 : List ℕ} {env1 : State} {b : Walk} (did : UnwindDid t p tab (set env h.cell e) env1 m1 m2 body s.count s.weight (Ok b)) {m3 m4 : List ℕ} {x y : Walk} (first : Linked m2 m3 b.count s.root b.root b.weight x)
+    module _ {m2 : List ℕ} {env1 : State} {b : Walk} (did : UnwindDid vs t p (set env h.cell e) env1 m1 m2 body s.count s.weight (Ok b)) {m3 m4 : List ℕ} {x y : Walk} (first : Linked m2 m3 b.count s.root b.root b.weight x)
         (second : Linked m3 m4 x.count before x.root x.weight y) where
       goes_body : Goes s.count s.weight b
       goes_body = did.goes
@@ -242,7 +238,7 @@ module _ (t p tab : List ℕ) {env : State} {old : List ℕ} {h : Head} {v : ℤ
       ends : (end : Bool) → passed (back h.by) (back h.to) next ≡ end → passed h.by h.to (v +ℤ h.by) ≡ end
       ends end e = passed_back h.by h.to v end ready.small.0 ready.small.2 ready.small.1 e
 
-      pub last_pass : passed (back h.by) (back h.to) next ≡ true → TurnsDid t p tab env env1 old m4 h v body n w before (Ok y)
+      pub last_pass : passed (back h.by) (back h.to) next ≡ true → TurnsDid vs t p env env1 old m4 h v body n w before (Ok y)
       last_pass end =
           record {
             kept = env_long did;
@@ -262,17 +258,16 @@ module _ (t p tab : List ℕ) {env : State} {old : List ℕ} {h : Head} {v : ℤ
         next_is : next ≡ v +ℤ h.by
         next_is = next_back v h.by ready.small.1 ready.small.0
 
-        pub turns_ready : TurnsReady p env1 m4 h next body y.count y.weight y.root
+        pub turns_ready : TurnsReady env1 m4 h next body y.count y.weight y.root
         turns_ready =
-            subst (λ z. TurnsReady p env1 m4 h z body y.count y.weight y.root) (sym next_is) there
+            subst (λ z. TurnsReady env1 m4 h z body y.count y.weight y.root) (sym next_is) there
           where
-            there : TurnsReady p env1 m4 h (v +ℤ h.by) body y.count y.weight y.root
+            there : TurnsReady env1 m4 h (v +ℤ h.by) body y.count y.weight y.root
             there =
                 let r = ready.ready in
                 let g = passed_goes in
                 let long = passed_long in
                 record {
-                  pool = ready.pool;
                   low = ready.low;
                   cells = omega (arith, ready.cells, env_long did);
                   inside = omega (arith, ready.inside, env_long did);
@@ -284,12 +279,12 @@ module _ (t p tab : List ℕ) {env : State} {old : List ℕ} {h : Head} {v : ℤ
                 }
 
         -- from the environment that the body leaves the passes are the same
-        bodies_same : body_of t p tab env1 h body ≡ in_body
+        bodies_same : body_of vs t p env1 h body ≡ in_body
         bodies_same =
             fun_ext (λ z. fun_ext (λ m. ap (λ en. unwind vs (T.front_at t p body S.done) en no_selector m) (env_only did (encode h.ty z))))
 
-        pub more_passes : {env2 : State} {m5 : List ℕ} {r : Result Walk Refusal} → TurnsDid t p tab env1 env2 m4 m5 h next body y.count y.weight y.root r
-            → TurnsDid t p tab env env2 old m5 h v body n w before r
+        pub more_passes : {env2 : State} {m5 : List ℕ} {r : Result Walk Refusal} → TurnsDid vs t p env1 env2 m4 m5 h next body y.count y.weight y.root r
+            → TurnsDid vs t p env env2 old m5 h v body n w before r
         more_passes {env2} {m5} {r} there =
             record {
               kept = rest.kept ∙ env_long did;
@@ -300,8 +295,8 @@ module _ (t p tab : List ℕ) {env : State} {old : List ℕ} {h : Head} {v : ℤ
               turned = λ ins size f l. turned f ins size l;
             }
           where
-            rest : TurnsDid t p tab env1 env2 m4 m5 h (v +ℤ h.by) body y.count y.weight y.root r
-            rest = subst (λ u. TurnsDid t p tab env1 env2 m4 m5 h u body y.count y.weight y.root r) next_is there
+            rest : TurnsDid vs t p env1 env2 m4 m5 h (v +ℤ h.by) body y.count y.weight y.root r
+            rest = subst (λ u. TurnsDid vs t p env1 env2 m4 m5 h u body y.count y.weight y.root r) next_is there
 
             further : (z : Walk) → Goes (y.count + min 1 y.root) y.weight z → Goes (n + min 1 before) w z
             further z g =
@@ -322,7 +317,7 @@ module _ (t p tab : List ℕ) {env : State} {old : List ℕ} {h : Head} {v : ℤ
                 (ap₂ (λ g m. turns f (pass_of h.place h.ty (cell_of_head h) g) h.by h.to (v +ℤ h.by) m) bodies_same (second.weight ∙ first.weight))
 
             turned : (f : ℕ) → Inside (length env) vs → length env ≡ length (cells_of vs) → nat_abs (h.to -ℤ v) < f
-                → said m5 r ≡ behind sofar (turns_from t p tab env h body f v w)
+                → said m5 r ≡ behind sofar (turns_from vs t p env h body f v w)
             turned zero ins size l = absurd (omega arith)
             turned (suc f) ins size l =
                 let near = nearer h.by h.to v ready.steps ready.within more in

@@ -10,7 +10,6 @@ use Rattle.paper.specs.Plain.{Expr, State, parts}
 use Rattle.paper.specs.Unwinding.{heavier, Selector, tests_of, plain_of, unwind}
 use Rattle.tree.specs.Nodes.{Same}
 use Rattle.tree.specs.Trees as T
-use Rattle.variables.specs.Table.{listed_in}
 use Rattle.plain.specs.Flat.{expr_at}
 use Rattle.unwind.specs.declared.lists.Walk.{Walk}
 use Rattle.unwind.specs.declared.cases.Selector as Stand
@@ -34,12 +33,12 @@ pub record ArmTestDid (vs : List Variable) (env : State) (old new : List ℕ) (s
   pub tested : Inside (length env) vs → (v : Expr) → plain_of vs env DINT e ≡ given v
       → Tested new (tests_of (selecting s v) ls) (heavier s.place (parts (tests_of (selecting s v) ls)) w) r
 
--- the arms at the node i, and the ELSE list behind them
-pub record ArmsDid (t p tab : List ℕ) (env env' : State) (old new : List ℕ) (s : Stand.Selector) (i n w : ℕ) (r : Result Walk Refusal) : Type 0 where
+-- the arms at the node i, and the ELSE list behind them, the selector being the expression e
+pub record ArmsDid (vs : List Variable) (t p : List ℕ) (env env' : State) (old new : List ℕ) (s : Stand.Selector) (e : S.Expr) (i n w : ℕ) (r : Result Walk Refusal) : Type 0 where
   pub kept : env' ≡ env
   pub long : length new ≡ length old
   pub same : Same n old new
   pub goes : IfOk r (Goes n w)
-  pub is : Inside (length env) (listed_in t p tab) → length env ≡ length (cells_of (listed_in t p tab))
-      → (v : Expr) → plain_of (listed_in t p tab) env DINT (T.expr_at t p s.node) ≡ given v
-      → said new r ≡ unwind (listed_in t p tab) (T.arms_at t p i) env (selecting s v) w
+  pub is : Inside (length env) vs → length env ≡ length (cells_of vs)
+      → (v : Expr) → plain_of vs env DINT e ≡ given v
+      → said new r ≡ unwind vs (T.arms_at t p i) env (selecting s v) w

@@ -19,11 +19,10 @@ use Rattle.tree.specs.Nodes.{child_of, Same}
 use Rattle.tree.specs.Trees as T
 use Rattle.tree.specs.Trees.{place_at, name_at}
 use Rattle.constants.specs.Answers.{maybe}
-use Rattle.variables.specs.Table.{listed_in}
 use Rattle.plain.specs.Flat.{list_at}
 use Rattle.unwind.specs.declared.lists.Walk.{Walk}
 use Rattle.unwind.specs.declared.loops.Head.{Head}
-use Rattle.unwind.specs.Parts.{Holds, Inside}
+use Rattle.unwind.specs.Parts.{Inside}
 use Rattle.unwind.specs.Walks.{Ready, said, Goes, behind, setting}
 
 -- ---- the head
@@ -45,11 +44,11 @@ head_in vs env n a b c =
     whole_value vs env v.declared.ty b >>= λ to.
     cond (is_zero by) none (some (record { ty = v.declared.ty; cell = cell; by = by; from = from; to = to }))
 
-abbrev pub head_at : List ℕ → List ℕ → List ℕ → State → ℕ → Option Worked
-head_at t p tab env i =
+abbrev pub head_at : List Variable → List ℕ → List ℕ → State → ℕ → Option Worked
+head_at vs t p env i =
     let h = child_of p i 1 in
     let g = child_of p h 1 in
-    head_in (listed_in t p tab) env (name_at t (place_at p h)) (T.expr_at t p (child_of p g 1)) (T.expr_at t p (child_of p g 2)) (T.expr_at t p (child_of p h 2))
+    head_in vs env (name_at t (place_at p h)) (T.expr_at t p (child_of p g 1)) (T.expr_at t p (child_of p g 2)) (T.expr_at t p (child_of p h 2))
 
 abbrev pub cell_of_head : Head → Cell
 cell_of_head h = record { 0 = h.cell }
@@ -68,9 +67,9 @@ pub record Stands (q cells : ℕ) (h : Head) : Type 0 where
   pub steps : is_zero h.by ≡ false
   pub small : Small h.by × Small h.from × Small h.to
 
-pub record HeadDid (t p tab : List ℕ) (env : State) (i : ℕ) (r : Rust.Option Head) : Type 0 where
+pub record HeadDid (vs : List Variable) (t p : List ℕ) (env : State) (i : ℕ) (r : Rust.Option Head) : Type 0 where
   pub stands : IfSome r (Stands (place_at p i) (length env))
-  pub is : Inside (length env) (listed_in t p tab) → maybe (option_map worked r) ≡ head_at t p tab env i
+  pub is : Inside (length env) vs → maybe (option_map worked r) ≡ head_at vs t p env i
 
 -- ---- its variable set
 
@@ -83,18 +82,17 @@ pub record SetDid (old new : List ℕ) (h : Head) (v : ℤ) (n w : ℕ) (r : Res
 -- ---- its passes
 
 -- the body in the pass with the value z
-abbrev pub body_of : List ℕ → List ℕ → List ℕ → State → Head → ℕ → ℤ → ℕ → Answer Unwound
-body_of t p tab env h body z w =
-    unwind (listed_in t p tab) (T.front_at t p body S.done) (store (cell_of_head h) (encode h.ty z) env) no_selector w
+abbrev pub body_of : List Variable → List ℕ → List ℕ → State → Head → ℕ → ℤ → ℕ → Answer Unwound
+body_of vs t p env h body z w =
+    unwind vs (T.front_at t p body S.done) (store (cell_of_head h) (encode h.ty z) env) no_selector w
 
 -- the passes from v on, of which there are fewer than f
-abbrev pub turns_from : List ℕ → List ℕ → List ℕ → State → Head → ℕ → ℕ → ℤ → ℕ → Answer Unwound
-turns_from t p tab env h body f v w =
-    U.turns f (pass_of h.place h.ty (cell_of_head h) (body_of t p tab env h body)) h.by h.to v w
+abbrev pub turns_from : List Variable → List ℕ → List ℕ → State → Head → ℕ → ℕ → ℤ → ℕ → Answer Unwound
+turns_from vs t p env h body f v w =
+    U.turns f (pass_of h.place h.ty (cell_of_head h) (body_of vs t p env h body)) h.by h.to v w
 
 -- v has not passed the end; `before` is the list of the passes so far
-pub record TurnsReady (p : List ℕ) (env : State) (out : List ℕ) (h : Head) (v : ℤ) (body n w before : ℕ) : Type 0 where
-  pub pool : Holds p body
+pub record TurnsReady (env : State) (out : List ℕ) (h : Head) (v : ℤ) (body n w before : ℕ) : Type 0 where
   pub low : body ≤ 65535
   pub cells : length env ≤ 64
   pub inside : h.cell < length env
@@ -104,13 +102,13 @@ pub record TurnsReady (p : List ℕ) (env : State) (out : List ℕ) (h : Head) (
   pub first : before ≤ n
   pub ready : Ready out (n + min 1 before) w
 
-pub record TurnsDid (t p tab : List ℕ) (env env' : State) (old new : List ℕ) (h : Head) (v : ℤ) (body n w before : ℕ) (r : Result Walk Refusal) : Type 0 where
+pub record TurnsDid (vs : List Variable) (t p : List ℕ) (env env' : State) (old new : List ℕ) (h : Head) (v : ℤ) (body n w before : ℕ) (r : Result Walk Refusal) : Type 0 where
   -- of the environment only the variable is another
   pub kept : length env' ≡ length env
   pub only : (x : ℕ) → set env' h.cell x ≡ set env h.cell x
   pub long : length new ≡ length old
   pub same : Same n old new
   pub goes : IfOk r (Goes (n + min 1 before) w)
-  pub turned : Inside (length env) (listed_in t p tab) → length env ≡ length (cells_of (listed_in t p tab))
+  pub turned : Inside (length env) vs → length env ≡ length (cells_of vs)
       → (f : ℕ) → nat_abs (h.to -ℤ v) < f
-      → said new r ≡ behind (record { plain = list_at old before; weight = w }) (turns_from t p tab env h body f v w)
+      → said new r ≡ behind (record { plain = list_at old before; weight = w }) (turns_from vs t p env h body f v w)

@@ -1,8 +1,7 @@
 -- What an expression's walk leaves: its plain form, one node a part, or 8 at a place.
-use Rattle.std.specs.Prelude.{◌≡◌, cond, List, ℕ, ◌+◌, ◌*◌, ◌/◌, ◌%◌, ◌≤◌, ◌<◌, min, eqb, length, get_or, Result, Ok, Err, IfOk, MatchResult}
+use Rattle.std.specs.Prelude.{◌≡◌, List, ℕ, ◌+◌, ◌*◌, ◌≤◌, ◌<◌, min, length, Result, Ok, Err, IfOk, MatchResult}
 use Rattle.std.proofs.Math.Option.{some}
 use Rattle.paper.specs.declared.Ty.{Ty}
-use Rattle.paper.specs.declared.Ty.TheVariants.{Bool as BOOL, Dint as DINT}
 use Rattle.paper.specs.declared.Refusal.{Refusal}
 use Rattle.paper.specs.declared.Why.TheVariants.{BadWalk}
 use Rattle.paper.specs.Refusals.{Answer, refused, given, refusal, Gives, ◌>>=◌}
@@ -15,7 +14,6 @@ use Rattle.paper.specs.Plain.{Expr, State, read}
 use Rattle.paper.specs.Unwinding.{bracket_of, cell_in, plain_of}
 use Rattle.tree.specs.Nodes.{Same, written}
 use Rattle.tree.specs.Trees as T
-use Rattle.variables.specs.Table.{listed_in}
 use Rattle.plain.specs.Flat.{expr_at}
 use Rattle.constants.specs.declared.Celled.{Celled}
 use Rattle.unwind.specs.declared.parts.Part.{Part}
@@ -70,9 +68,8 @@ pub record PartDid (vs : List Variable) (size : ℕ) (old new : List ℕ) (n : �
   pub parted : Parted new n own r
   pub is : Inside size vs → own ≡ o
 
-abbrev pub PlainDid : List ℕ → List ℕ → List ℕ → State → Ty → ℕ → List ℕ → List ℕ → ℕ → Result Part Refusal → Type 0
-PlainDid t p tab env u i old new n r =
-    let vs = listed_in t p tab in
+abbrev pub PlainDid : List Variable → List ℕ → List ℕ → State → Ty → ℕ → List ℕ → List ℕ → ℕ → Result Part Refusal → Type 0
+PlainDid vs t p env u i old new n r =
     let e = T.expr_at t p i in
     PartDid vs (length env) old new n (plain_of vs env u e) (type_in vs u e) r
 
@@ -81,26 +78,11 @@ pub record CellDid (vs : List Variable) (env : State) (e : S.Expr) (r : Result C
   pub cell : MatchResult r (λ c. (c.cell < length env) × ((u : Ty) → c.ty ≡ type_in vs u e)) (λ f. f ≡ refusal BadWalk (bracket_of e))
   pub is : Inside (length env) vs → answer (λ c. record { 0 = c.cell }) r ≡ cell_in vs env e
 
-abbrev pub ReadDid : List ℕ → List ℕ → List ℕ → State → ℕ → List ℕ → List ℕ → ℕ → Result Part Refusal → Type 0
-ReadDid t p tab env i old new n r =
-    let vs = listed_in t p tab in
+abbrev pub ReadDid : List Variable → List ℕ → List ℕ → State → ℕ → List ℕ → List ℕ → ℕ → Result Part Refusal → Type 0
+ReadDid vs t p env i old new n r =
     let e = T.expr_at t p i in
     (u : Ty) → PartDid vs (length env) old new n (cell_in vs env e >>= λ c. given (read c)) (type_in vs u e) r
-
--- a number, FALSE or TRUE, whatever the text and the variables
-abbrev pub ConstantDid : List ℕ → Ty → ℕ → List ℕ → List ℕ → ℕ → Part → Type 0
-ConstantDid p u i old new n r =
-    (t : List ℕ) (vs : List Variable) (env : State) (size : ℕ)
-    → PartDid vs size old new n (plain_of vs env u (T.expr_at t p i)) (type_in vs u (T.expr_at t p i)) (Ok r)
 
 -- 8 at the place of `[`
 abbrev pub NoCell : List ℕ → ℕ → Refusal → Type 0
 NoCell p i r = (t : List ℕ) → r ≡ refusal BadWalk (bracket_of (T.expr_at t p i))
-
--- the type that is offered to the operand of a node of kind k, whose word 2 is w
-abbrev pub offered_at : ℕ → ℕ → Ty → Ty
-offered_at k w t = cond (eqb k 8) DINT (cond (eqb k 10) (get_or T.types (w / 8) BOOL) t)
-
--- the type of such a node over an operand of the type u
-abbrev pub resulting_at : ℕ → ℕ → Ty → Ty
-resulting_at k w u = cond (eqb k 8) BOOL (cond (eqb k 10) (get_or T.types (w % 8) BOOL) u)

@@ -1,8 +1,8 @@
 -- What the walk of statements leaves: their list in the flat pool and the weight so far, or 8 or 9 at a place.
-use Rattle.std.specs.Prelude.{◌≡◌, cond, List, [], ◌∷◌, ℕ, ◌+◌, ◌*◌, ◌-◌, ◌≤◌, min, eqb, ℤ, length, get_or, replicate, Result, IfOk}
+use Rattle.std.specs.Prelude.{◌≡◌, cond, List, [], ◌∷◌, ℕ, ◌+◌, ◌*◌, ◌≤◌, min, eqb, ℤ, length, replicate, Result, IfOk}
 use Rattle.paper.specs.declared.Ty.{Ty}
 use Rattle.paper.specs.declared.Ty.TheVariants.{Dint as DINT}
-use Rattle.paper.specs.declared.Op.TheVariants.{Or}
+use Rattle.paper.specs.declared.Op.{Op}
 use Rattle.paper.specs.declared.Cell.{Cell}
 use Rattle.paper.specs.declared.Refusal.{Refusal}
 use Rattle.paper.specs.Refusals.{Answer, given, ◌>>=◌}
@@ -115,9 +115,9 @@ pub record Spelt (old new : List ℕ) (n nodes : ℕ) (x : Expr) (r : ℕ) : Typ
 abbrev pub selects : List ℕ → Stand.Selector → ℕ → Selector
 selects out s root = record { place = s.place; plain = expr_at out root; ty = s.ty }
 
--- compared by the operator of the kind k with the number at i
-abbrev pub compared_with : List ℕ → List ℕ → Stand.Selector → ℕ → ℕ → ℕ → Expr
-compared_with out p s root k i = binary (get_or T.operators (k - 11) Or) s.ty (expr_at out root) (number s.ty (T.whole_at p i))
+-- compared by the operator o with the number at i
+abbrev pub compared_with : List ℕ → List ℕ → Stand.Selector → ℕ → Op → ℕ → Expr
+compared_with out p sel root o i = binary o sel.ty (expr_at out root) (number sel.ty (T.whole_at p i))
 
 -- a comparison adds two nodes, AND a third
 abbrev pub label_nodes : List ℕ → ℕ → ℕ
@@ -154,17 +154,17 @@ Front vs env f w own =
     → unwind vs (f k) env sel w ≡ (own >>= λ x. behind x (unwind vs k env no_selector x.weight))
 
 -- what a walk of the node i needs
-abbrev pub Walks : List ℕ → State → List ℕ → ℕ → ℕ → ℕ → Type 0
-Walks p env out i n w = Holds p i × (i ≤ 65535) × Ready out n w × (length env ≤ 64)
+abbrev pub Walks : State → List ℕ → ℕ → ℕ → ℕ → Type 0
+Walks env out i n w = (i ≤ 65535) × Ready out n w × (length env ≤ 64)
 
 -- the statements of the node i; the variables of the FORs around are as they were
-pub record UnwindDid (t p tab : List ℕ) (env env' : State) (old new : List ℕ) (i n w : ℕ) (r : Result Walk Refusal) : Type 0 where
+pub record UnwindDid (vs : List Variable) (t p : List ℕ) (env env' : State) (old new : List ℕ) (i n w : ℕ) (r : Result Walk Refusal) : Type 0 where
   pub kept : env' ≡ env
   pub long : length new ≡ length old
   pub same : Same n old new
   pub goes : IfOk r (Goes n w)
-  pub front : Inside (length env) (listed_in t p tab) → length env ≡ length (cells_of (listed_in t p tab))
-      → Front (listed_in t p tab) env (T.front_at t p i) w (said new r)
+  pub front : Inside (length env) vs → length env ≡ length (cells_of vs)
+      → Front vs env (T.front_at t p i) w (said new r)
 
 -- the body of the program at the node i
 pub record ProgramDid (t p tab : List ℕ) (cells i : ℕ) (old new : List ℕ) (r : Result Walk Refusal) : Type 0 where

@@ -12,7 +12,8 @@ ghost use Rattle.unwind.specs.Walks.{ProgramDid};
 
 use crate::lists::Walk;
 use paper::Refusal;
-use tree::child;
+use tree::node::node_at;
+use variables::listed::listed;
 
 // The body of the program at a node, whose variables have so many cells.
 pub fn unwind_program(
@@ -28,11 +29,9 @@ pub fn unwind_program(
 {
     let mut env = [0u32; 64];
     walk::unwind(
-        text,
-        pool,
-        table,
+        listed(text, pool, table),
         &mut env[..cells],
-        child(pool, root, 2),
+        node_at(pool, root).child(2),
         out,
         0,
         0,

@@ -1,17 +1,16 @@
 // Lists of statements just walked, in nodes of the flat pool: one behind another, an assignment, an IF.
-ghost use Rattle.std.specs.Prelude.{◌≡◌, List, ℕ, ◌+◌, ◌≤◌, ◌<◌, length, MatchResult};
+ghost use Rattle.std.specs.Prelude.{◌≡◌, ◌+◌, ◌≤◌, ◌<◌, length, MatchResult};
 ghost use Rattle.paper.specs.declared.Why.TheVariants.{TooHeavy};
 ghost use Rattle.paper.specs.Refusals.{refusal};
-ghost use Rattle.tree.specs.Trees as T;
 ghost use Rattle.variables.specs.Table.{listed_in};
-ghost use Rattle.unwind.specs.Parts.{Holds, Room};
+ghost use Rattle.unwind.specs.Parts.{Room};
 ghost use Rattle.unwind.specs.Walks.{Ready, WalkDid, Linked, AssignedDid, assign_at, JoinedDid};
 
 use crate::parts::{Part, cell_in, emit, plain_of};
 use paper::{Cell, Refusal, Why};
 use plain::cells_within;
-use tree::child;
-use tree::node::node_at;
+use tree::node::{Node, node_at};
+use variables::listed::Variables;
 
 // The last node, the list and the weight so far.
 #[derive(Clone, Copy)]
@@ -92,22 +91,20 @@ fn assigned(out: &mut [u16], at: usize, cell: Cell, v: Part, weight: usize) -> R
 
 // target := expression
 pub fn assignment(
-    text: &[u8],
-    pool: &[u16],
-    table: &[u16],
+    vars: Variables,
     env: &[u32],
-    i: usize,
+    n: Node,
     out: &mut [u16],
     count: usize,
     weight: usize,
 ) -> Result<Walk, Refusal>
-    requires { Holds pool.now i × Ready out.old count weight × (length env.now ≤ 64) }
-    ensures { WalkDid (listed_in text.now pool.now table.now) (length env.now) out.old out.new count weight (assign_at (listed_in text.now pool.now table.now) text.now pool.now env.now i weight) result }
+    requires { Ready out.old count weight × (length env.now ≤ 64) }
+    ensures { WalkDid (listed_in vars.entry.text.now vars.entry.pool.now vars.entry.table.now) (length env.now) out.old out.new count weight (assign_at (listed_in vars.entry.text.now vars.entry.pool.now vars.entry.table.now) vars.entry.text.now n.entry.pool.now env.now n.entry.at weight) result }
 {
-    let x = child(pool, i, 1);
-    let c = cell_in(text, pool, table, env, x)?;
-    let v = plain_of(text, pool, table, env, c.ty, child(pool, i, 2), out, count)?;
-    let at = node_at(pool, x).first_word() as usize;
+    let x = n.child(1);
+    let c = cell_in(vars, env, x)?;
+    let v = plain_of(vars, env, c.ty, n.child(2), out, count)?;
+    let at = x.first_word() as usize;
     assigned(out, at, Cell(c.cell as u16), v, weight)
 }
 

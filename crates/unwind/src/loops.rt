@@ -2,6 +2,7 @@
 ghost use Rattle.std.specs.Prelude.{◌≡◌, ◌<◌, nat_abs};
 ghost use Rattle.paper.specs.Meaning as Meaning;
 ghost use Rattle.paper.specs.Plain as Plain;
+ghost use Rattle.variables.specs.Table.{listed_in};
 ghost use Rattle.unwind.specs.Parts.{Holds};
 ghost use Rattle.unwind.specs.Walks.{Ready, Spelt};
 ghost use Rattle.unwind.specs.Loops.{HeadDid, SetDid};
@@ -10,9 +11,8 @@ use crate::lists::{Walk, heavier};
 use crate::parts::emit;
 use constants::{variable_cell, whole_in};
 use paper::{Refusal, Ty};
-use tree::node::node_at;
-use tree::{child, word};
-use variables::listed::listed;
+use tree::node::Node;
+use variables::listed::Variables;
 
 // The head of a FOR: its place, its variable's cell and type, and the values.
 #[derive(Clone, Copy)]
@@ -33,23 +33,21 @@ pub fn passed(c: i64, b: i64, v: i64) -> bool
 }
 
 // The head of the FOR at a node: its variable is one of the environment's, and its step is not 0.
-pub fn head_of(text: &[u8], pool: &[u16], table: &[u16], env: &[u32], i: usize) -> Option<Head>
-    requires { Holds pool.now i }
-    ensures { HeadDid text.now pool.now table.now env.now i result }
+pub fn head_of(vars: Variables, env: &[u32], n: Node) -> Option<Head>
+    ensures { HeadDid (listed_in vars.entry.text.now vars.entry.pool.now vars.entry.table.now) vars.entry.text.now n.entry.pool.now env.now n.entry.at result }
 {
-    let vars = listed(text, pool, table);
-    let h = child(pool, i, 1);
-    let g = child(pool, h, 1);
-    let v = variable_cell(vars, word(pool, h, 3))?;
+    let h = n.child(1);
+    let g = h.child(1);
+    let v = variable_cell(vars, h.place())?;
     let t = v.ty;
-    let by = whole_in(vars, env, t, node_at(pool, child(pool, h, 2)))?;
-    let from = whole_in(vars, env, t, node_at(pool, child(pool, g, 1)))?;
-    let to = whole_in(vars, env, t, node_at(pool, child(pool, g, 2)))?;
+    let by = whole_in(vars, env, t, h.child(2))?;
+    let from = whole_in(vars, env, t, g.child(1))?;
+    let to = whole_in(vars, env, t, g.child(2))?;
     if env.len() <= v.cell || by == 0 {
         return None;
     }
     Some(Head {
-        place: word(pool, i, 3) as usize,
+        place: n.place() as usize,
         cell: v.cell,
         ty: t,
         by,

@@ -1,20 +1,23 @@
 // Expressions of ST0, in nodes of four words.
-ghost use Rattle.std.specs.Prelude.{◌≡◌, List, ℕ, ◌≤◌, ◌<◌, min, length};
-ghost use Rattle.paper.specs.Plain.{number};
+ghost use Rattle.std.specs.Prelude.{◌≡◌, List, ℕ, ◌≤◌, ◌<◌, ◌+◌, ◌*◌, min, length, get_or};
+ghost use Rattle.paper.specs.Plain.{number, truth};
+ghost use Rattle.paper.specs.Types.{tag};
+ghost use Rattle.paper.specs.declared.Ty.TheVariants.{Bool as BOOL};
+ghost use Rattle.paper.specs.declared.Op.TheVariants.{Or};
 ghost use Rattle.paper.specs.Unwinding.{bracket_of};
-ghost use Rattle.tree.specs.Nodes.{kind_of};
+ghost use Rattle.tree.specs.Kinds.{IsExpression};
+ghost use Rattle.tree.specs.declared.kinds.Expression.TheVariants.{Binary};
 ghost use Rattle.tree.specs.Trees as T;
 ghost use Rattle.variables.specs.Table.{listed_in};
 ghost use Rattle.unwind.specs.Walks.{Spelt};
-ghost use Rattle.unwind.specs.Parts.{Holds, Room, Emitted, PlainDid, CellDid, ReadDid, ConstantDid, NoCell, offered_at, resulting_at};
+ghost use Rattle.unwind.specs.Parts.{Holds, Room, Emitted, PlainDid, CellDid, ReadDid, NoCell};
 
-use constants::{Celled, cell_of, offered_first, operator_at, result_type};
-use paper::{Refusal, Ty, Why};
+use constants::{Celled, cell_of, offered_first, result_type};
+use paper::{Op, Refusal, Ty, Why};
 use tree::kinds::Expression;
-use tree::node::node_at;
-use tree::{child, kind, put, word};
-use value::type_with;
-use variables::listed::listed;
+use tree::node::Node;
+use tree::put;
+use variables::listed::Variables;
 
 // The last node, which is the expression's own, its number of parts, 3001 standing for more than 3000, and its type.
 #[derive(Clone, Copy)]
@@ -48,11 +51,9 @@ fn ended(count: usize, parts: usize, ty: Ty) -> Part
 }
 
 // The place of an element's `[`, of any other expression its own.
-pub fn bracket_of(pool: &[u16], i: usize) -> usize
-    requires { Holds pool.now i }
-    ensures { (t : List ℕ) → result ≡ bracket_of (T.expr_at t pool.now i) }
+pub fn bracket_of(n: Node) -> usize
+    ensures { (t : List ℕ) → result ≡ bracket_of (T.expr_at t n.entry.pool.now n.entry.at) }
 {
-    let n = node_at(pool, i);
     match n.expression() {
         Expression::Nothing => 0,
         Expression::Element => n.word(2) as usize,
@@ -61,183 +62,176 @@ pub fn bracket_of(pool: &[u16], i: usize) -> usize
 }
 
 // 8 at the place of an element's `[`.
-fn no_cell(pool: &[u16], i: usize) -> Refusal
-    requires { Holds pool.now i }
-    ensures { NoCell pool.now i result }
+fn no_cell(n: Node) -> Refusal
+    ensures { NoCell n.entry.pool.now n.entry.at result }
 {
     Refusal {
         why: Why::BadWalk,
-        place: bracket_of(pool, i),
+        place: bracket_of(n),
     }
 }
 
 // The cell of the name or element at a node, which is one of the environment's.
-pub fn cell_in(
-    text: &[u8],
-    pool: &[u16],
-    table: &[u16],
-    env: &[u32],
-    i: usize,
-) -> Result<Celled, Refusal>
-    requires { Holds pool.now i }
-    ensures { CellDid (listed_in text.now pool.now table.now) env.now (T.expr_at text.now pool.now i) result }
+pub fn cell_in(vars: Variables, env: &[u32], n: Node) -> Result<Celled, Refusal>
+    ensures { CellDid (listed_in vars.entry.text.now vars.entry.pool.now vars.entry.table.now) env.now (T.expr_at vars.entry.text.now n.entry.pool.now n.entry.at) result }
 {
-    let Some(c) = cell_of(listed(text, pool, table), env, node_at(pool, i)) else {
-        return Err(no_cell(pool, i));
+    let Some(c) = cell_of(vars, env, n) else {
+        return Err(no_cell(n));
     };
     if c.cell < env.len() {
         return Ok(c);
     }
-    Err(no_cell(pool, i))
+    Err(no_cell(n))
 }
 
 // The read of that cell.
 fn read(
-    text: &[u8],
-    pool: &[u16],
-    table: &[u16],
+    vars: Variables,
     env: &[u32],
-    i: usize,
+    n: Node,
     out: &mut [u16],
     count: usize,
 ) -> Result<Part, Refusal>
-    requires { Holds pool.now i × Room out.old count × (length env.now ≤ 64) }
-    ensures { ReadDid text.now pool.now table.now env.now i out.old out.new count result }
+    requires { Room out.old count × (length env.now ≤ 64) }
+    ensures { ReadDid (listed_in vars.entry.text.now vars.entry.pool.now vars.entry.table.now) vars.entry.text.now n.entry.pool.now env.now n.entry.at out.old out.new count result }
 {
-    let c = cell_in(text, pool, table, env, i)?;
-    let n = emit(out, count, 5, c.cell as u16, 0, 0);
-    Ok(ended(n, 1, c.ty))
+    let c = cell_in(vars, env, n)?;
+    let last = emit(out, count, 5, c.cell as u16, 0, 0);
+    Ok(ended(last, 1, c.ty))
 }
 
 // The number at a node, with the type `t`.
-pub fn number_at(pool: &[u16], i: usize, t: Ty, out: &mut [u16], count: usize) -> usize
-    requires { Holds pool.now i × Holds out.old count }
-    ensures { Spelt out.old out.new count 1 (number t (T.whole_at pool.now i)) result }
+pub fn number_at(n: Node, t: Ty, out: &mut [u16], count: usize) -> usize
+    requires { Holds out.old count }
+    ensures { Spelt out.old out.new count 1 (number t (T.whole_at n.entry.pool.now n.entry.at)) result }
 {
-    let low = word(pool, i, 1);
-    let high = word(pool, i, 2);
+    let low = n.word(1);
+    let high = n.word(2);
     let v = u8::from(t) as u16;
-    if word(pool, i, 0) == 2 {
+    if n.word(0) == 2 {
         return emit(out, count, 2, low, high, v);
     }
     emit(out, count, 1, low, high, v)
 }
 
-// The number, FALSE or TRUE at a node.
-fn constant(pool: &[u16], t: Ty, i: usize, out: &mut [u16], count: usize) -> Part
-    requires { Holds pool.now i × (5 ≤ kind_of pool.now i → 24 < kind_of pool.now i) × Holds out.old count }
-    ensures { ConstantDid pool.now t i out.old out.new count result }
+// FALSE or TRUE.
+fn truth(b: bool, out: &mut [u16], count: usize) -> Part
+    requires { Holds out.old count }
+    ensures node { Spelt out.old out.new count 1 (truth b) result.count }
+    ensures parts { result.parts ≡ min 3001 1 }
+    ensures ty { result.ty ≡ BOOL }
 {
-    match kind(pool, i) {
-        1 | 2 => ended(number_at(pool, i, t, out, count), 1, t),
-        4 => ended(emit(out, count, 4, 0, 0, 0), 1, Ty::Bool),
-        _ => ended(emit(out, count, 3, 0, 0, 0), 1, Ty::Bool),
+    if b {
+        return ended(emit(out, count, 4, 0, 0, 0), 1, Ty::Bool);
+    }
+    ended(emit(out, count, 3, 0, 0, 0), 1, Ty::Bool)
+}
+
+// The number of an operator: its kind is 11 more.
+pub fn operator_number(o: Op) -> u16
+    ensures small { result < 14 }
+    ensures is { get_or T.operators result Or ≡ o }
+{
+    match o {
+        Op::Mul => 0,
+        Op::Div => 1,
+        Op::Mod => 2,
+        Op::Add => 3,
+        Op::Sub => 4,
+        Op::Lt => 5,
+        Op::Gt => 6,
+        Op::Le => 7,
+        Op::Ge => 8,
+        Op::Eq => 9,
+        Op::Ne => 10,
+        Op::And => 11,
+        Op::Xor => 12,
+        Op::Or => 13,
     }
 }
 
-// The type that is offered to the one operand of a node, where `t` is offered to the whole.
-fn offered(k: u16, w: u16, t: Ty) -> Ty
-    ensures { result ≡ offered_at k w t }
+// An operator of one operand, just walked, by its kind and its second word; `ty` is the type of the whole.
+fn over(x: Part, kind: u16, w: u16, ty: Ty, out: &mut [u16]) -> Part
+    requires { Room out.old x.count × (x.parts ≤ 3001) }
+    ensures node { Emitted out.old out.new x.count kind x.count w (tag x.ty) result.count }
+    ensures parts { result.parts ≡ min 3001 (x.parts + 1) }
+    ensures ty { result.ty ≡ ty }
 {
-    match k {
-        8 => Ty::Dint,
-        10 => type_with(u32::from(w / 8)),
-        _ => t,
-    }
+    let u = x.ty;
+    let last = emit(out, x.count, kind, x.count as u16, w, u8::from(u) as u16);
+    ended(last, x.parts + 1, ty)
 }
 
-// The type of a node with one operand of the type `u`.
-fn resulting(k: u16, w: u16, u: Ty) -> Ty
-    ensures { result ≡ resulting_at k w u }
+// The two types of a conversion in one word.
+fn both_types(u: Ty, v: Ty) -> u16
+    ensures { result ≡ 8 * tag u + tag v }
 {
-    match k {
-        8 => Ty::Bool,
-        10 => type_with(u32::from(w % 8)),
-        _ => u,
-    }
+    8 * u8::from(u) as u16 + u8::from(v) as u16
 }
 
 // The expression at a node, where `t` is offered, its subscripts looked at from the left.
 #[cycle(operands)]
 pub fn plain_of(
-    text: &[u8],
-    pool: &[u16],
-    table: &[u16],
+    vars: Variables,
     env: &[u32],
     t: Ty,
-    i: usize,
+    n: Node,
     out: &mut [u16],
     count: usize,
 ) -> Result<Part, Refusal>
-    requires { Holds pool.now i × Room out.old count × (length env.now ≤ 64) }
-    ensures { PlainDid text.now pool.now table.now env.now t i out.old out.new count result }
+    requires { Room out.old count × (length env.now ≤ 64) }
+    ensures { PlainDid (listed_in vars.entry.text.now vars.entry.pool.now vars.entry.table.now) vars.entry.text.now n.entry.pool.now env.now t n.entry.at out.old out.new count result }
 {
-    match kind(pool, i) {
-        5 | 6 => read(text, pool, table, env, i, out, count),
-        7..=10 => unary_of(text, pool, table, env, t, i, out, count),
-        11..=24 => binary_of(text, pool, table, env, t, i, out, count),
-        _ => Ok(constant(pool, t, i, out, count)),
+    match n.expression() {
+        Expression::Nothing => Ok(truth(false, out, count)),
+        Expression::Number => Ok(ended(number_at(n, t, out, count), 1, t)),
+        Expression::Truth(b) => Ok(truth(b, out, count)),
+        Expression::Variable | Expression::Element => read(vars, env, n, out, count),
+        Expression::Minus => {
+            let x = plain_of(vars, env, t, n.child(1), out, count)?;
+            Ok(over(x, 7, 0, x.ty, out))
+        }
+        Expression::Complement => {
+            let x = plain_of(vars, env, Ty::Dint, n.child(1), out, count)?;
+            Ok(over(x, 8, 0, Ty::Bool, out))
+        }
+        Expression::Brackets => plain_of(vars, env, t, n.child(1), out, count),
+        Expression::Conversion(u, v) => {
+            let x = plain_of(vars, env, u, n.child(1), out, count)?;
+            Ok(over(x, 10, both_types(u, v), v, out))
+        }
+        Expression::Binary(o) => binary_of(vars, env, t, o, n, out, count),
     }
 }
 
-// With one operand.
-#[cycle(operands)]
-fn unary_of(
-    text: &[u8],
-    pool: &[u16],
-    table: &[u16],
-    env: &[u32],
-    t: Ty,
-    i: usize,
-    out: &mut [u16],
-    count: usize,
-) -> Result<Part, Refusal>
-    requires { Holds pool.now i × (6 < kind_of pool.now i) × (kind_of pool.now i < 11) × Room out.old count × (length env.now ≤ 64) }
-    ensures { PlainDid text.now pool.now table.now env.now t i out.old out.new count result }
-{
-    let k = kind(pool, i);
-    let a = child(pool, i, 1);
-    let w = word(pool, i, 2);
-    let x = plain_of(text, pool, table, env, offered(k, w, t), a, out, count)?;
-    if k == 9 {
-        return Ok(x);
-    }
-    let u = x.ty;
-    let n = emit(out, x.count, k, x.count as u16, w, u8::from(u) as u16);
-    Ok(ended(n, x.parts + 1, resulting(k, w, u)))
-}
-
-// With two.
+// With two operands.
 #[cycle(operands)]
 fn binary_of(
-    text: &[u8],
-    pool: &[u16],
-    table: &[u16],
+    vars: Variables,
     env: &[u32],
     t: Ty,
-    i: usize,
+    o: Op,
+    n: Node,
     out: &mut [u16],
     count: usize,
 ) -> Result<Part, Refusal>
-    requires { Holds pool.now i × (10 < kind_of pool.now i) × (kind_of pool.now i < 25) × Room out.old count × (length env.now ≤ 64) }
-    ensures { PlainDid text.now pool.now table.now env.now t i out.old out.new count result }
+    requires { IsExpression n.pool.now n.at (Binary o) × Room out.old count × (length env.now ≤ 64) }
+    ensures { PlainDid (listed_in vars.entry.text.now vars.entry.pool.now vars.entry.table.now) vars.entry.text.now n.entry.pool.now env.now t n.entry.at out.old out.new count result }
 {
-    let k = kind(pool, i);
-    let o = operator_at(k);
-    let v = offered_first(listed(text, pool, table), t, o, node_at(pool, i));
-    let x = plain_of(text, pool, table, env, v, child(pool, i, 1), out, count)?;
+    let v = offered_first(vars, t, o, n);
+    let x = plain_of(vars, env, v, n.child(1), out, count)?;
     let u = x.ty;
-    let y = plain_of(text, pool, table, env, u, child(pool, i, 2), out, x.count)?;
-    let n = emit(
+    let y = plain_of(vars, env, u, n.child(2), out, x.count)?;
+    let last = emit(
         out,
         y.count,
-        k,
+        11 + operator_number(o),
         x.count as u16,
         y.count as u16,
         u8::from(u) as u16,
     );
     Ok(ended(
-        n,
+        last,
         x.parts + y.parts + 1,
         result_type(Expression::Binary(o), u),
     ))

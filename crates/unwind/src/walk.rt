@@ -1,8 +1,9 @@
 // Statements in unwound order: the order of looking and of adding weight is the paper's.
+ghost use Rattle.tree.specs.Trees as T;
 ghost use Rattle.tree.specs.Kinds.{IsStatement, IsArms};
 ghost use Rattle.tree.specs.declared.kinds.Statement.TheVariants.{Choice, Selection, Loop, List};
 ghost use Rattle.tree.specs.declared.kinds.Arms.TheVariants.{Arm};
-ghost use Rattle.unwind.specs.Parts.{Holds};
+ghost use Rattle.variables.specs.Table.{listed_in};
 ghost use Rattle.unwind.specs.Walks.{Walks, UnwindDid};
 ghost use Rattle.unwind.specs.Arms.{ArmsDid};
 ghost use Rattle.unwind.specs.Loops.{TurnsReady, TurnsDid};
@@ -13,132 +14,122 @@ use crate::loops::{Head, head_of, passed, set_variable};
 use crate::parts::plain_of;
 use paper::{Refusal, Ty, Why};
 use tree::kinds::{Arms, Statement};
-use tree::node::node_at;
-use tree::{child, word};
+use tree::node::Node;
 use value::residue_of;
+use variables::listed::Variables;
 
 // The statements at a node.
 #[cycle(walk)]
 pub fn unwind(
-    text: &[u8],
-    pool: &[u16],
-    table: &[u16],
+    vars: Variables,
     env: &mut [u32],
-    i: usize,
+    n: Node,
     out: &mut [u16],
     count: usize,
     weight: usize,
 ) -> Result<Walk, Refusal>
-    requires { Walks pool.now env.old out.old i count weight }
-    ensures { UnwindDid text.now pool.now table.now env.old env.new out.old out.new i count weight result }
+    requires { Walks env.old out.old n.at count weight }
+    ensures { UnwindDid (listed_in vars.entry.text.now vars.entry.pool.now vars.entry.table.now) vars.entry.text.now n.entry.pool.now env.old env.new out.old out.new n.entry.at count weight result }
 {
-    match node_at(pool, i).statement() {
+    match n.statement() {
         Statement::Nothing => Ok(nothing(count, weight)),
-        Statement::Assignment => assignment(text, pool, table, env, i, out, count, weight),
-        Statement::Choice => choice(text, pool, table, env, i, out, count, weight),
-        Statement::Selection => select(text, pool, table, env, i, out, count, weight),
-        Statement::Loop => repeat(text, pool, table, env, i, out, count, weight),
-        Statement::List => both(text, pool, table, env, i, out, count, weight),
+        Statement::Assignment => assignment(vars, env, n, out, count, weight),
+        Statement::Choice => choice(vars, env, n, out, count, weight),
+        Statement::Selection => select(vars, env, n, out, count, weight),
+        Statement::Loop => repeat(vars, env, n, out, count, weight),
+        Statement::List => both(vars, env, n, out, count, weight),
     }
 }
 
 // A list and one statement more.
 #[cycle(walk)]
 fn both(
-    text: &[u8],
-    pool: &[u16],
-    table: &[u16],
+    vars: Variables,
     env: &mut [u32],
-    i: usize,
+    n: Node,
     out: &mut [u16],
     count: usize,
     weight: usize,
 ) -> Result<Walk, Refusal>
-    requires { Walks pool.now env.old out.old i count weight × IsStatement pool.now i List }
-    ensures { UnwindDid text.now pool.now table.now env.old env.new out.old out.new i count weight result }
+    requires { Walks env.old out.old n.at count weight × IsStatement n.pool.now n.at List }
+    ensures { UnwindDid (listed_in vars.entry.text.now vars.entry.pool.now vars.entry.table.now) vars.entry.text.now n.entry.pool.now env.old env.new out.old out.new n.entry.at count weight result }
 {
-    let first = child(pool, i, 1);
-    let a = unwind(text, pool, table, env, first, out, count, weight)?;
-    let next = child(pool, i, 2);
-    let b = unwind(text, pool, table, env, next, out, a.count, a.weight)?;
+    let first = n.child(1);
+    let a = unwind(vars, env, first, out, count, weight)?;
+    let next = n.child(2);
+    let b = unwind(vars, env, next, out, a.count, a.weight)?;
     Ok(linked(out, b.count, a.root, b.root, b.weight))
 }
 
 // IF: the condition, the two lists, and the cells that they assign.
 #[cycle(walk)]
 fn choice(
-    text: &[u8],
-    pool: &[u16],
-    table: &[u16],
+    vars: Variables,
     env: &mut [u32],
-    i: usize,
+    n: Node,
     out: &mut [u16],
     count: usize,
     weight: usize,
 ) -> Result<Walk, Refusal>
-    requires { Walks pool.now env.old out.old i count weight × IsStatement pool.now i Choice }
-    ensures { UnwindDid text.now pool.now table.now env.old env.new out.old out.new i count weight result }
+    requires { Walks env.old out.old n.at count weight × IsStatement n.pool.now n.at Choice }
+    ensures { UnwindDid (listed_in vars.entry.text.now vars.entry.pool.now vars.entry.table.now) vars.entry.text.now n.entry.pool.now env.old env.new out.old out.new n.entry.at count weight result }
 {
-    let j = child(pool, i, 2);
-    let q = word(pool, j, 3) as usize;
-    let test = child(pool, i, 1);
-    let v = plain_of(text, pool, table, env, Ty::Dint, test, out, count)?;
+    let j = n.child(2);
+    let q = j.place() as usize;
+    let test = n.child(1);
+    let v = plain_of(vars, env, Ty::Dint, test, out, count)?;
     let w = heavier(q, v.parts, weight)?;
-    let first = child(pool, j, 1);
-    let a = unwind(text, pool, table, env, first, out, v.count, w)?;
-    let second = child(pool, j, 2);
-    let b = unwind(text, pool, table, env, second, out, a.count, a.weight)?;
+    let first = j.child(1);
+    let a = unwind(vars, env, first, out, v.count, w)?;
+    let second = j.child(2);
+    let b = unwind(vars, env, second, out, a.count, a.weight)?;
     joined(out, env.len(), q, v.count, a.root, b)
 }
 
 // CASE: its selector is looked at once, and stands in each test.
 #[cycle(walk)]
 fn select(
-    text: &[u8],
-    pool: &[u16],
-    table: &[u16],
+    vars: Variables,
     env: &mut [u32],
-    i: usize,
+    n: Node,
     out: &mut [u16],
     count: usize,
     weight: usize,
 ) -> Result<Walk, Refusal>
-    requires { Walks pool.now env.old out.old i count weight × IsStatement pool.now i Selection }
-    ensures { UnwindDid text.now pool.now table.now env.old env.new out.old out.new i count weight result }
+    requires { Walks env.old out.old n.at count weight × IsStatement n.pool.now n.at Selection }
+    ensures { UnwindDid (listed_in vars.entry.text.now vars.entry.pool.now vars.entry.table.now) vars.entry.text.now n.entry.pool.now env.old env.new out.old out.new n.entry.at count weight result }
 {
-    let s = child(pool, i, 1);
-    let v = plain_of(text, pool, table, env, Ty::Dint, s, out, count)?;
+    let s = n.child(1);
+    let v = plain_of(vars, env, Ty::Dint, s, out, count)?;
     let sel = Selector {
-        place: word(pool, i, 3) as usize,
+        place: n.place() as usize,
         node: s,
         ty: v.ty,
     };
-    let first = child(pool, i, 2);
-    arms(text, pool, table, env, first, sel, out, count, weight)
+    let first = n.child(2);
+    arms(vars, env, first, sel, out, count, weight)
 }
 
 // The arms of a CASE and its ELSE list.
 #[cycle(walk)]
 fn arms(
-    text: &[u8],
-    pool: &[u16],
-    table: &[u16],
+    vars: Variables,
     env: &mut [u32],
-    i: usize,
+    n: Node,
     sel: Selector,
     out: &mut [u16],
     count: usize,
     weight: usize,
 ) -> Result<Walk, Refusal>
-    requires { Walks pool.now env.old out.old i count weight × Holds pool.now sel.node }
-    ensures { ArmsDid text.now pool.now table.now env.old env.new out.old out.new sel i count weight result }
+    requires { Walks env.old out.old n.at count weight }
+    ensures { ArmsDid (listed_in vars.entry.text.now vars.entry.pool.now vars.entry.table.now) vars.entry.text.now n.entry.pool.now env.old env.new out.old out.new sel.entry (T.expr_at vars.entry.text.now sel.entry.node.pool.now sel.entry.node.at) n.entry.at count weight result }
 {
-    match node_at(pool, i).arms() {
+    match n.arms() {
         Arms::Nothing => Ok(nothing(count, weight)),
-        Arms::Arm => arm(text, pool, table, env, i, sel, out, count, weight),
+        Arms::Arm => arm(vars, env, n, sel, out, count, weight),
         Arms::Otherwise => {
-            let list = child(pool, i, 1);
-            unwind(text, pool, table, env, list, out, count, weight)
+            let list = n.child(1);
+            unwind(vars, env, list, out, count, weight)
         }
     }
 }
@@ -146,47 +137,43 @@ fn arms(
 // An arm, its list and the arms behind it, as an IF.
 #[cycle(walk)]
 fn arm(
-    text: &[u8],
-    pool: &[u16],
-    table: &[u16],
+    vars: Variables,
     env: &mut [u32],
-    i: usize,
+    n: Node,
     sel: Selector,
     out: &mut [u16],
     count: usize,
     weight: usize,
 ) -> Result<Walk, Refusal>
-    requires { Walks pool.now env.old out.old i count weight × Holds pool.now sel.node × IsArms pool.now i Arm }
-    ensures { ArmsDid text.now pool.now table.now env.old env.new out.old out.new sel i count weight result }
+    requires { Walks env.old out.old n.at count weight × IsArms n.pool.now n.at Arm }
+    ensures { ArmsDid (listed_in vars.entry.text.now vars.entry.pool.now vars.entry.table.now) vars.entry.text.now n.entry.pool.now env.old env.new out.old out.new sel.entry (T.expr_at vars.entry.text.now sel.entry.node.pool.now sel.entry.node.at) n.entry.at count weight result }
 {
-    let labels = child(pool, i, 1);
-    let c = arm_test(text, pool, table, env, sel, labels, out, count, weight)?;
-    let list = child(pool, i, 2);
-    let a = unwind(text, pool, table, env, list, out, c.count, c.weight)?;
-    let rest = child(pool, i, 3);
-    let b = arms(text, pool, table, env, rest, sel, out, a.count, a.weight)?;
+    let labels = n.child(1);
+    let c = arm_test(vars, env, sel, labels, out, count, weight)?;
+    let list = n.child(2);
+    let a = unwind(vars, env, list, out, c.count, c.weight)?;
+    let rest = n.child(3);
+    let b = arms(vars, env, rest, sel, out, a.count, a.weight)?;
     joined(out, env.len(), sel.place, c.root, a.root, b)
 }
 
 // FOR at a node.
 #[cycle(walk)]
 fn repeat(
-    text: &[u8],
-    pool: &[u16],
-    table: &[u16],
+    vars: Variables,
     env: &mut [u32],
-    i: usize,
+    n: Node,
     out: &mut [u16],
     count: usize,
     weight: usize,
 ) -> Result<Walk, Refusal>
-    requires { Walks pool.now env.old out.old i count weight × IsStatement pool.now i Loop }
-    ensures { UnwindDid text.now pool.now table.now env.old env.new out.old out.new i count weight result }
+    requires { Walks env.old out.old n.at count weight × IsStatement n.pool.now n.at Loop }
+    ensures { UnwindDid (listed_in vars.entry.text.now vars.entry.pool.now vars.entry.table.now) vars.entry.text.now n.entry.pool.now env.old env.new out.old out.new n.entry.at count weight result }
 {
-    let Some(h) = head_of(text, pool, table, env, i) else {
+    let Some(h) = head_of(vars, env, n) else {
         return Err(Refusal {
             why: Why::BadWalk,
-            place: word(pool, i, 3) as usize,
+            place: n.place() as usize,
         });
     };
     if passed(h.by, h.to, h.from) {
@@ -194,10 +181,8 @@ fn repeat(
     }
     let c = h.cell;
     let old = env[c];
-    let body = child(pool, i, 2);
-    let r = turns(
-        text, pool, table, env, h, h.from, body, out, count, weight, 0,
-    );
+    let body = n.child(2);
+    let r = turns(vars, env, h, h.from, body, out, count, weight, 0);
     env[c] = old;
     r
 }
@@ -205,41 +190,27 @@ fn repeat(
 // The passes from `v` on; `before` are those so far.
 #[cycle(walk)]
 fn turns(
-    text: &[u8],
-    pool: &[u16],
-    table: &[u16],
+    vars: Variables,
     env: &mut [u32],
     h: Head,
     v: i64,
-    body: usize,
+    body: Node,
     out: &mut [u16],
     count: usize,
     weight: usize,
     before: usize,
 ) -> Result<Walk, Refusal>
-    requires { TurnsReady pool.now env.old out.old h v body count weight before }
-    ensures { TurnsDid text.now pool.now table.now env.old env.new out.old out.new h v body count weight before result }
+    requires { TurnsReady env.old out.old h v body.at count weight before }
+    ensures { TurnsDid (listed_in vars.entry.text.now vars.entry.pool.now vars.entry.table.now) vars.entry.text.now body.entry.pool.now env.old env.new out.old out.new h v body.entry.at count weight before result }
 {
     let s = set_variable(out, h, v, count, weight)?;
     let c = h.cell;
     env[c] = residue_of(h.ty, v);
-    let b = unwind(text, pool, table, env, body, out, s.count, s.weight)?;
+    let b = unwind(vars, env, body, out, s.count, s.weight)?;
     let x = linked(out, b.count, s.root, b.root, b.weight);
     let y = linked(out, x.count, before, x.root, x.weight);
     if passed(h.by, h.to, v + h.by) {
         return Ok(y);
     }
-    turns(
-        text,
-        pool,
-        table,
-        env,
-        h,
-        v + h.by,
-        body,
-        out,
-        y.count,
-        y.weight,
-        y.root,
-    )
+    turns(vars, env, h, v + h.by, body, out, y.count, y.weight, y.root)
 }

@@ -2,10 +2,7 @@ use Prim.Native.Nat.{◌+◌, ◌*◌}
 use Rattle.unwind.proofs.parts.+operands.Given as goal
 
 abbrev pub decreases-binary_of : goal.decreases-binary_of
-decreases-binary_of l = 2 * l.i
+decreases-binary_of l = 2 * l.n.at
 
 abbrev pub decreases-plain_of : goal.decreases-plain_of
-decreases-plain_of l = 2 * l.i + 1
-
-abbrev pub decreases-unary_of : goal.decreases-unary_of
-decreases-unary_of l = 2 * l.i
+decreases-plain_of l = 2 * l.n.at + 1

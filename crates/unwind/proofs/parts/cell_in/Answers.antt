@@ -4,15 +4,15 @@ use Rattle.unwind.proofs.parts.cell_in.Goals as goal
 
 pub returns-in_default : goal.returns-in_default
 returns-in_default c =
-    let d = rw (c.listed.ensures.0, c.listed.ensures.1, c.listed.ensures.2, c.node_at.ensures.0, c.node_at.ensures.1) at c.in_default.ensures in
-    none_did _ _ _ _ (c.no_cell.ensures c.args.text.now) d.cell
+    let d = c.in_default.ensures in
+    none_did _ _ _ _ (c.no_cell.ensures c.args.vars.text.now) d.cell
 
 pub returns-then-c-env : goal.returns-then-c-env
 returns-then-c-env c =
-    let d = rw (c.listed.ensures.0, c.listed.ensures.1, c.listed.ensures.2, c.node_at.ensures.0, c.node_at.ensures.1) at c.in-Some.ensures in
+    let d = c.in-Some.ensures in
     cell_did _ _ _ _ d.cell d.ty c.if-c-env.true
 
 pub returns : goal.returns
 returns c =
-    let d = rw (c.listed.ensures.0, c.listed.ensures.1, c.listed.ensures.2, c.node_at.ensures.0, c.node_at.ensures.1) at c.in-Some.ensures in
-    beyond_did _ _ _ _ (c.no_cell-2.ensures c.args.text.now) _ d.cell c.if-c-env.false
+    let d = c.in-Some.ensures in
+    beyond_did _ _ _ _ (c.no_cell-2.ensures c.args.vars.text.now) _ d.cell c.if-c-env.false

@@ -3,6 +3,8 @@
 use mathlib.Core.Path.{refl, sym, ◌∙◌}
 use native.Mathlib.Omega.{arith}
 use Rattle.std.proofs.lemmas.Result.{err_from_is_err_and}
+use Rattle.tree.specs.Trees.{expr_at}
+use Rattle.variables.specs.Table.{listed_in}
 use Rattle.unwind.proofs.Steps.{none_did, assign_node, first_refused, second_refused, both_did}
 use Rattle.unwind.proofs.Choosing.{test_refused, test_heavy, left_refused, right_refused, choice_did}
 use Rattle.unwind.proofs.Arming.{no_arms_did, else_did, test_bad, left_bad, right_bad, arm_did}
@@ -14,115 +16,155 @@ use Rattle.unwind.proofs.walk.+walk.Goals as goal
 pub arm-returns-in_err-c : goal.arm-returns-in_err-c
 arm-returns-in_err-c t c =
     let A = c.args in
+    let test = rw (c.child-labels.ensures.0) at c.in_err-c.ensures in
     let p = err_from_is_err_and c.from_residual.result c.from_residual.ensures.1 in
-    rw (p.1, p.2) (test_bad A.text.now A.pool.now A.table.now A.env.now A.sel A.i A.count A.weight A.out.now c.requires.2 _ _ c.child-labels.ensures _ c.in_err-c.ensures)
+    rw (p.1, p.2) (test_bad (listed_in A.vars.text.now A.vars.pool.now A.vars.table.now) A.vars.text.now A.n.pool.now A.env.now A.sel (expr_at A.vars.text.now A.sel.node.pool.now A.sel.node.at) A.n.at A.count A.weight A.out.now c.requires.1 _ _ c.child-labels.ensures.1 _ test)
 
 pub arm-returns-in_err-a : goal.arm-returns-in_err-a
 arm-returns-in_err-a t c =
     let A = c.args in
+    let test = rw (c.child-labels.ensures.0) at c.in_ok-c.ensures in
+    let left = rw (c.child-list.ensures.0) at c.in_err-a.ensures in
     let p = err_from_is_err_and c.from_residual-in_err-a.result c.from_residual-in_err-a.ensures.1 in
-    rw (p.1, p.2) (left_bad A.text.now A.pool.now A.table.now A.env.now A.sel A.i A.count A.weight A.out.now c.requires.2 _ _ c.child-labels.ensures _ c.in_ok-c.ensures _ _ _ c.child-list.ensures _ c.in_err-a.ensures)
+    rw (p.1, p.2) (left_bad (listed_in A.vars.text.now A.vars.pool.now A.vars.table.now) A.vars.text.now A.n.pool.now A.env.now A.sel (expr_at A.vars.text.now A.sel.node.pool.now A.sel.node.at) A.n.at A.count A.weight A.out.now c.requires.1 _ _ c.child-labels.ensures.1 _ test _ _ _ c.child-list.ensures.1 _ left)
 
 pub arm-returns-in_err-b : goal.arm-returns-in_err-b
 arm-returns-in_err-b t c =
     let A = c.args in
+    let test = rw (c.child-labels.ensures.0) at c.in_ok-c.ensures in
+    let left = rw (c.child-list.ensures.0) at c.in_ok-a.ensures in
+    let right = rw (c.child-rest.ensures.0) at c.in_err-b.ensures in
     let p = err_from_is_err_and c.from_residual-in_err-b.result c.from_residual-in_err-b.ensures.1 in
-    rw (p.1, p.2) (right_bad A.text.now A.pool.now A.table.now A.env.now A.sel A.i A.count A.weight A.out.now c.requires.2 _ _ c.child-labels.ensures _ c.in_ok-c.ensures _ _ _ c.child-list.ensures _ c.in_ok-a.ensures _ _ _ c.child-rest.ensures _ c.in_err-b.ensures)
+    rw (p.1, p.2) (right_bad (listed_in A.vars.text.now A.vars.pool.now A.vars.table.now) A.vars.text.now A.n.pool.now A.env.now A.sel (expr_at A.vars.text.now A.sel.node.pool.now A.sel.node.at) A.n.at A.count A.weight A.out.now c.requires.1 _ _ c.child-labels.ensures.1 _ test _ _ _ c.child-list.ensures.1 _ left _ _ _ c.child-rest.ensures.1 _ right)
 
 pub arm-returns : goal.arm-returns
 arm-returns t c =
     let A = c.args in
-    arm_did A.text.now A.pool.now A.table.now A.env.now A.sel A.i A.count A.weight A.out.now c.requires.2 _ _ c.child-labels.ensures _ c.in_ok-c.ensures _ _ _ c.child-list.ensures _ c.in_ok-a.ensures _ _ _ c.child-rest.ensures _ c.in_ok-b.ensures _ refl _ _ c.joined.ensures
+    let test = rw (c.child-labels.ensures.0) at c.in_ok-c.ensures in
+    let left = rw (c.child-list.ensures.0) at c.in_ok-a.ensures in
+    let right = rw (c.child-rest.ensures.0) at c.in_ok-b.ensures in
+    arm_did (listed_in A.vars.text.now A.vars.pool.now A.vars.table.now) A.vars.text.now A.n.pool.now A.env.now A.sel (expr_at A.vars.text.now A.sel.node.pool.now A.sel.node.at) A.n.at A.count A.weight A.out.now c.requires.1 _ _ c.child-labels.ensures.1 _ test _ _ _ c.child-list.ensures.1 _ left _ _ _ c.child-rest.ensures.1 _ right _ refl _ _ c.joined.ensures
 
 pub arms-returns-in-Nothing : goal.arms-returns-in-Nothing
 arms-returns-in-Nothing t c =
-    let A = c.args in no_arms_did A.text.now A.pool.now A.table.now A.env.now A.sel A.i A.count A.weight A.out.now (rw (c.node_at.ensures.0, c.node_at.ensures.1) at c.in-Nothing.ensures) _ c.nothing.ensures.0 c.nothing.ensures.1 c.nothing.ensures.2 c.requires.0.2.1
+    let A = c.args in no_arms_did (listed_in A.vars.text.now A.vars.pool.now A.vars.table.now) A.vars.text.now A.n.pool.now A.env.now A.sel (expr_at A.vars.text.now A.sel.node.pool.now A.sel.node.at) A.n.at A.count A.weight A.out.now c.in-Nothing.ensures _ c.nothing.ensures.0 c.nothing.ensures.1 c.nothing.ensures.2 c.requires.1.1
 
 pub arms-returns-in-Otherwise : goal.arms-returns-in-Otherwise
 arms-returns-in-Otherwise t c =
-    let A = c.args in else_did A.text.now A.pool.now A.table.now A.env.now A.sel A.i A.count A.weight A.out.now (rw (c.node_at.ensures.0, c.node_at.ensures.1) at c.in-Otherwise.ensures) _ _ _ c.child-list.ensures _ c.unwind.ensures
+    let A = c.args in
+    let list = rw (c.child-list.ensures.0) at c.unwind.ensures in
+    else_did (listed_in A.vars.text.now A.vars.pool.now A.vars.table.now) A.vars.text.now A.n.pool.now A.env.now A.sel (expr_at A.vars.text.now A.sel.node.pool.now A.sel.node.at) A.n.at A.count A.weight A.out.now c.in-Otherwise.ensures _ _ _ c.child-list.ensures.1 _ list
 
 pub both-returns-in_err-a : goal.both-returns-in_err-a
 both-returns-in_err-a t c =
     let A = c.args in
+    let left = rw (c.child-first.ensures.0) at c.in_err-a.ensures in
     let p = err_from_is_err_and c.from_residual.result c.from_residual.ensures.1 in
-    rw (p.1, p.2) (first_refused A.text.now A.pool.now A.table.now A.env.now A.i A.count A.weight A.out.now c.requires.1 _ _ _ c.child-first.ensures _ c.in_err-a.ensures)
+    rw (p.1, p.2) (first_refused (listed_in A.vars.text.now A.vars.pool.now A.vars.table.now) A.vars.text.now A.n.pool.now A.env.now A.n.at A.count A.weight A.out.now c.requires.1 _ _ _ c.child-first.ensures.1 _ left)
 
 pub both-returns-in_err-b : goal.both-returns-in_err-b
 both-returns-in_err-b t c =
     let A = c.args in
+    let left = rw (c.child-first.ensures.0) at c.in_ok-a.ensures in
+    let right = rw (c.child-next.ensures.0) at c.in_err-b.ensures in
     let p = err_from_is_err_and c.from_residual-in_err-b.result c.from_residual-in_err-b.ensures.1 in
-    rw (p.1, p.2) (second_refused A.text.now A.pool.now A.table.now A.env.now A.i A.count A.weight A.out.now c.requires.1 _ _ _ c.child-first.ensures _ c.in_ok-a.ensures _ _ _ c.child-next.ensures _ c.in_err-b.ensures)
+    rw (p.1, p.2) (second_refused (listed_in A.vars.text.now A.vars.pool.now A.vars.table.now) A.vars.text.now A.n.pool.now A.env.now A.n.at A.count A.weight A.out.now c.requires.1 _ _ _ c.child-first.ensures.1 _ left _ _ _ c.child-next.ensures.1 _ right)
 
 pub both-returns : goal.both-returns
 both-returns t c =
     let A = c.args in
-    both_did A.text.now A.pool.now A.table.now A.env.now A.i A.count A.weight A.out.now c.requires.1 _ _ _ c.child-first.ensures _ c.in_ok-a.ensures _ _ _ c.child-next.ensures _ c.in_ok-b.ensures _ _ c.linked.ensures
+    let left = rw (c.child-first.ensures.0) at c.in_ok-a.ensures in
+    let right = rw (c.child-next.ensures.0) at c.in_ok-b.ensures in
+    both_did (listed_in A.vars.text.now A.vars.pool.now A.vars.table.now) A.vars.text.now A.n.pool.now A.env.now A.n.at A.count A.weight A.out.now c.requires.1 _ _ _ c.child-first.ensures.1 _ left _ _ _ c.child-next.ensures.1 _ right _ _ c.linked.ensures
 
 pub choice-returns-in_err-v : goal.choice-returns-in_err-v
 choice-returns-in_err-v t c =
     let A = c.args in
+    let place = rw (c.child-j.ensures.0) at c.place-q.ensures in
+    let test = rw (c.child-test.ensures.0) at c.in_err-v.ensures in
     let p = err_from_is_err_and c.from_residual.result c.from_residual.ensures.1 in
-    rw (p.1, p.2) (test_refused A.text.now A.pool.now A.table.now A.env.now A.i A.count A.weight A.out.now c.requires.1 _ _ c.child-j.ensures c.word-q.ensures _ _ c.child-test.ensures _ c.in_err-v.ensures)
+    rw (p.1, p.2) (test_refused (listed_in A.vars.text.now A.vars.pool.now A.vars.table.now) A.vars.text.now A.n.pool.now A.env.now A.n.at A.count A.weight A.out.now c.requires.1 _ _ c.child-j.ensures.1 place _ _ c.child-test.ensures.1 _ test)
 
 pub choice-returns-in_err-w : goal.choice-returns-in_err-w
 choice-returns-in_err-w t c =
     let A = c.args in
+    let place = rw (c.child-j.ensures.0) at c.place-q.ensures in
+    let test = rw (c.child-test.ensures.0) at c.in_ok-v.ensures in
     let p = err_from_is_err_and c.from_residual-in_err-w.result c.from_residual-in_err-w.ensures.1 in
-    rw (p.1, p.2) (test_heavy A.text.now A.pool.now A.table.now A.env.now A.i A.count A.weight A.out.now c.requires.1 _ _ c.child-j.ensures c.word-q.ensures _ _ c.child-test.ensures _ c.in_ok-v.ensures _ c.in_err-w.ensures.0 c.in_err-w.ensures.1)
+    rw (p.1, p.2) (test_heavy (listed_in A.vars.text.now A.vars.pool.now A.vars.table.now) A.vars.text.now A.n.pool.now A.env.now A.n.at A.count A.weight A.out.now c.requires.1 _ _ c.child-j.ensures.1 place _ _ c.child-test.ensures.1 _ test _ c.in_err-w.ensures.0 c.in_err-w.ensures.1)
 
 pub choice-returns-in_err-a : goal.choice-returns-in_err-a
 choice-returns-in_err-a t c =
     let A = c.args in
+    let place = rw (c.child-j.ensures.0) at c.place-q.ensures in
+    let test = rw (c.child-test.ensures.0) at c.in_ok-v.ensures in
+    let to_left = rw (c.child-j.ensures.0) at c.child-first.ensures in
+    let left = rw (to_left.0) at c.in_err-a.ensures in
     let p = err_from_is_err_and c.from_residual-in_err-a.result c.from_residual-in_err-a.ensures.1 in
-    rw (p.1, p.2) (left_refused A.text.now A.pool.now A.table.now A.env.now A.i A.count A.weight A.out.now c.requires.1 _ _ c.child-j.ensures c.word-q.ensures _ _ c.child-test.ensures _ c.in_ok-v.ensures
-    _ c.in_ok-w.ensures.0 c.in_ok-w.ensures.1 c.requires.0.2.0 c.requires.0.2.2 _ _ _ c.child-first.ensures _ c.in_err-a.ensures)
+    rw (p.1, p.2) (left_refused (listed_in A.vars.text.now A.vars.pool.now A.vars.table.now) A.vars.text.now A.n.pool.now A.env.now A.n.at A.count A.weight A.out.now c.requires.1 _ _ c.child-j.ensures.1 place _ _ c.child-test.ensures.1 _ test
+    _ c.in_ok-w.ensures.0 c.in_ok-w.ensures.1 c.requires.0.1.0 c.requires.0.1.2 _ _ _ to_left.1 _ left)
 
 pub choice-returns-in_err-b : goal.choice-returns-in_err-b
 choice-returns-in_err-b t c =
     let A = c.args in
+    let place = rw (c.child-j.ensures.0) at c.place-q.ensures in
+    let test = rw (c.child-test.ensures.0) at c.in_ok-v.ensures in
+    let to_left = rw (c.child-j.ensures.0) at c.child-first.ensures in
+    let left = rw (to_left.0) at c.in_ok-a.ensures in
+    let to_right = rw (c.child-j.ensures.0) at c.child-second.ensures in
+    let right = rw (to_right.0) at c.in_err-b.ensures in
     let p = err_from_is_err_and c.from_residual-in_err-b.result c.from_residual-in_err-b.ensures.1 in
-    rw (p.1, p.2) (right_refused A.text.now A.pool.now A.table.now A.env.now A.i A.count A.weight A.out.now c.requires.1 _ _ c.child-j.ensures c.word-q.ensures _ _ c.child-test.ensures _ c.in_ok-v.ensures
-    _ c.in_ok-w.ensures.0 c.in_ok-w.ensures.1 c.requires.0.2.0 c.requires.0.2.2 _ _ _ c.child-first.ensures _ c.in_ok-a.ensures _ _ _ c.child-second.ensures _ c.in_err-b.ensures)
+    rw (p.1, p.2) (right_refused (listed_in A.vars.text.now A.vars.pool.now A.vars.table.now) A.vars.text.now A.n.pool.now A.env.now A.n.at A.count A.weight A.out.now c.requires.1 _ _ c.child-j.ensures.1 place _ _ c.child-test.ensures.1 _ test
+    _ c.in_ok-w.ensures.0 c.in_ok-w.ensures.1 c.requires.0.1.0 c.requires.0.1.2 _ _ _ to_left.1 _ left _ _ _ to_right.1 _ right)
 
 pub choice-returns : goal.choice-returns
 choice-returns t c =
     let A = c.args in
-    choice_did A.text.now A.pool.now A.table.now A.env.now A.i A.count A.weight A.out.now c.requires.1 _ _ c.child-j.ensures c.word-q.ensures _ _ c.child-test.ensures _ c.in_ok-v.ensures
-    _ c.in_ok-w.ensures.0 c.in_ok-w.ensures.1 c.requires.0.2.0 c.requires.0.2.2 _ _ _ c.child-first.ensures _ c.in_ok-a.ensures _ _ _ c.child-second.ensures _ c.in_ok-b.ensures _ refl _ _ c.joined.ensures
+    let place = rw (c.child-j.ensures.0) at c.place-q.ensures in
+    let test = rw (c.child-test.ensures.0) at c.in_ok-v.ensures in
+    let to_left = rw (c.child-j.ensures.0) at c.child-first.ensures in
+    let left = rw (to_left.0) at c.in_ok-a.ensures in
+    let to_right = rw (c.child-j.ensures.0) at c.child-second.ensures in
+    let right = rw (to_right.0) at c.in_ok-b.ensures in
+    choice_did (listed_in A.vars.text.now A.vars.pool.now A.vars.table.now) A.vars.text.now A.n.pool.now A.env.now A.n.at A.count A.weight A.out.now c.requires.1 _ _ c.child-j.ensures.1 place _ _ c.child-test.ensures.1 _ test
+    _ c.in_ok-w.ensures.0 c.in_ok-w.ensures.1 c.requires.0.1.0 c.requires.0.1.2 _ _ _ to_left.1 _ left _ _ _ to_right.1 _ right _ refl _ _ c.joined.ensures
 
 pub repeat-returns-in_default : goal.repeat-returns-in_default
 repeat-returns-in_default t c =
     let A = c.args in
-    no_head A.text.now A.pool.now A.table.now A.env.now A.i A.out.now A.count A.weight c.requires.1 c.in_default.ensures _ c.word.ensures
+    no_head (listed_in A.vars.text.now A.vars.pool.now A.vars.table.now) A.vars.text.now A.n.pool.now A.env.now A.n.at A.out.now A.count A.weight c.requires.1 c.in_default.ensures _ c.place.ensures
 
 pub repeat-returns-then-passed : goal.repeat-returns-then-passed
 repeat-returns-then-passed t c =
     let A = c.args in
-    no_pass A.text.now A.pool.now A.table.now A.env.now A.i A.out.now A.count A.weight c.requires.1 c.in-Some.ensures (sym c.passed.ensures ∙ c.if-passed.true) c.set_variable.ensures
+    no_pass (listed_in A.vars.text.now A.vars.pool.now A.vars.table.now) A.vars.text.now A.n.pool.now A.env.now A.n.at A.out.now A.count A.weight c.requires.1 c.in-Some.ensures (sym c.passed.ensures ∙ c.if-passed.true) c.set_variable.ensures
 
 pub repeat-turns-r-requires : goal.repeat-turns-r-requires
 repeat-turns-r-requires t c =
     let A = c.args in (
-      omega (arith, passes_fall A.text.now A.pool.now A.table.now A.env.now A.i A.out.now A.count A.weight c.requires.1 c.in-Some.ensures _ c.child-body.ensures (sym c.passed.ensures ∙ c.if-passed.false)),
-      passes_ready A.text.now A.pool.now A.table.now A.env.now A.i A.out.now A.count A.weight c.requires.1 c.in-Some.ensures _ c.child-body.ensures (sym c.passed.ensures ∙ c.if-passed.false) c.requires.0,
+      omega (arith, passes_fall (listed_in A.vars.text.now A.vars.pool.now A.vars.table.now) A.vars.text.now A.n.pool.now A.env.now A.n.at A.out.now A.count A.weight c.requires.1 c.in-Some.ensures _ c.child-body.ensures.1 (sym c.passed.ensures ∙ c.if-passed.false)),
+      passes_ready (listed_in A.vars.text.now A.vars.pool.now A.vars.table.now) A.vars.text.now A.n.pool.now A.env.now A.n.at A.out.now A.count A.weight c.requires.1 c.in-Some.ensures _ c.child-body.ensures.1 (sym c.passed.ensures ∙ c.if-passed.false) c.requires.0,
     )
 
 pub repeat-returns : goal.repeat-returns
 repeat-returns t c =
     let A = c.args in
-    all_passes A.text.now A.pool.now A.table.now A.env.now A.i A.out.now A.count A.weight c.requires.1 c.in-Some.ensures _ c.child-body.ensures (sym c.passed.ensures ∙ c.if-passed.false) c.turns-r.ensures
+    let passes = rw (c.child-body.ensures.0) at c.turns-r.ensures in
+    all_passes (listed_in A.vars.text.now A.vars.pool.now A.vars.table.now) A.vars.text.now A.n.pool.now A.env.now A.n.at A.out.now A.count A.weight c.requires.1 c.in-Some.ensures _ c.child-body.ensures.1 (sym c.passed.ensures ∙ c.if-passed.false) passes
 
 pub select-returns-in_err-v : goal.select-returns-in_err-v
 select-returns-in_err-v t c =
     let A = c.args in
+    let looked = rw (c.child-s.ensures.0) at c.in_err-v.ensures in
     let p = err_from_is_err_and c.from_residual.result c.from_residual.ensures.1 in
-    rw (p.1, p.2) (selector_refused A.text.now A.pool.now A.table.now A.env.now A.i A.count A.weight A.out.now c.requires.1 _ _ c.child-s.ensures _ c.in_err-v.ensures)
+    rw (p.1, p.2) (selector_refused (listed_in A.vars.text.now A.vars.pool.now A.vars.table.now) A.vars.text.now A.n.pool.now A.env.now A.n.at A.count A.weight A.out.now c.requires.1 _ _ c.child-s.ensures.1 _ looked)
 
 pub select-returns : goal.select-returns
 select-returns t c =
     let A = c.args in
-    select_did A.text.now A.pool.now A.table.now A.env.now A.i A.count A.weight A.out.now c.requires.1 _ _ c.child-s.ensures _ c.in_ok-v.ensures _ c.word.ensures refl refl _ _ _ c.child-first.ensures _ c.arms.ensures
+    let looked = rw (c.child-s.ensures.0) at c.in_ok-v.ensures in
+    let rest = rw (c.child-first.ensures.0) at c.arms.ensures in
+    select_did (listed_in A.vars.text.now A.vars.pool.now A.vars.table.now) A.vars.text.now A.n.pool.now A.env.now A.n.at A.count A.weight A.out.now c.requires.1 _ _ c.child-s.ensures.1 _ looked _ c.place.ensures refl _ (rw (c.child-s.ensures.0) refl) _ _ _ c.child-first.ensures.1 _ rest
 
 pub turns-returns-in_err-s : goal.turns-returns-in_err-s
 turns-returns-in_err-s t c =
@@ -158,8 +200,8 @@ turns-returns t c =
 
 pub unwind-returns-in-Nothing : goal.unwind-returns-in-Nothing
 unwind-returns-in-Nothing t c =
-    let A = c.args in none_did A.text.now A.pool.now A.table.now A.env.now A.i A.count A.weight A.out.now (rw (c.node_at.ensures.0, c.node_at.ensures.1) at c.in-Nothing.ensures) _ c.nothing.ensures.0 c.nothing.ensures.1 c.nothing.ensures.2 c.requires.2.1
+    let A = c.args in none_did (listed_in A.vars.text.now A.vars.pool.now A.vars.table.now) A.vars.text.now A.n.pool.now A.env.now A.n.at A.count A.weight A.out.now c.in-Nothing.ensures _ c.nothing.ensures.0 c.nothing.ensures.1 c.nothing.ensures.2 c.requires.1.1
 
 pub unwind-returns-in-Assignment : goal.unwind-returns-in-Assignment
 unwind-returns-in-Assignment t c =
-    let A = c.args in assign_node A.text.now A.pool.now A.table.now A.env.now A.i A.count A.weight A.out.now _ _ (rw (c.node_at.ensures.0, c.node_at.ensures.1) at c.in-Assignment.ensures) c.assignment.ensures
+    let A = c.args in assign_node (listed_in A.vars.text.now A.vars.pool.now A.vars.table.now) A.vars.text.now A.n.pool.now A.env.now A.n.at A.count A.weight A.out.now _ _ c.in-Assignment.ensures c.assignment.ensures
