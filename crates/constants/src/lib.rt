@@ -58,24 +58,38 @@ fn is_arithmetic(o: Op) -> bool
     }
 }
 
-// The type of the expression at a node; what is made of numbers only has none.
+// The type of the expression at a node, over variables that are lent, so that none is copied on the way down.
+// A loop, so that a long chain of second operands takes no more stack.
 #[tactic(auto, using(crate::proofs::Types::types_by_kind))]
+fn own_type(vars: &Variables, n: Node) -> Option<Ty>
+    ensures { maybe result ≡ type_of (listed_in vars.now.text.now vars.now.pool.now vars.now.table.now)
+        (expr_at vars.now.text.now n.entry.pool.now n.entry.at) }
+{
+    let mut rest = n;
+    loop {
+        match rest.expression() {
+            Expression::Number => return None,
+            Expression::Variable | Expression::Element => {
+                return Some(type_of_name(*vars, rest.place()));
+            }
+            Expression::Minus | Expression::Brackets => rest = rest.child(1),
+            Expression::Conversion(_, u) => return Some(u),
+            Expression::Binary(o) if !is_arithmetic(o) => return Some(Ty::Bool),
+            Expression::Binary(_) => match own_type(vars, rest.child(1)) {
+                Some(u) => return Some(u),
+                None => rest = rest.child(2),
+            },
+            _ => return Some(Ty::Bool),
+        }
+    }
+}
+
+// The type of the expression at a node; what is made of numbers only has none.
 pub fn type_of_expression(vars: Variables, n: Node) -> Option<Ty>
     ensures { maybe result ≡ type_of (listed_in vars.entry.text.now vars.entry.pool.now vars.entry.table.now)
         (expr_at vars.entry.text.now n.entry.pool.now n.entry.at) }
 {
-    match n.expression() {
-        Expression::Number => None,
-        Expression::Variable | Expression::Element => Some(type_of_name(vars, n.place())),
-        Expression::Minus | Expression::Brackets => type_of_expression(vars, n.child(1)),
-        Expression::Conversion(_, u) => Some(u),
-        Expression::Binary(o) if !is_arithmetic(o) => Some(Ty::Bool),
-        Expression::Binary(_) => match type_of_expression(vars, n.child(1)) {
-            Some(u) => Some(u),
-            None => type_of_expression(vars, n.child(2)),
-        },
-        _ => Some(Ty::Bool),
-    }
+    own_type(&vars, n)
 }
 
 // The one type of both operands of the operator at a node, where `t` is offered to the whole.
@@ -94,14 +108,19 @@ pub fn operand_type(vars: Variables, t: Ty, o: Op, n: Node) -> Ty
 }
 
 // Whether an expression begins with what has a type of its own, and so has one itself; a number has none.
+// A loop, so that a long chain takes no more stack.
 pub fn is_typed(n: Node) -> bool
     ensures { TypedAt n.entry.pool.now n.entry.at result }
 {
-    match n.expression() {
-        Expression::Nothing | Expression::Number => false,
-        Expression::Minus | Expression::Brackets => is_typed(n.child(1)),
-        Expression::Binary(o) => !is_arithmetic(o) || is_typed(n.child(1)),
-        _ => true,
+    let mut first = n;
+    loop {
+        match first.expression() {
+            Expression::Nothing | Expression::Number => return false,
+            Expression::Minus | Expression::Brackets => first = first.child(1),
+            Expression::Binary(o) if !is_arithmetic(o) => return true,
+            Expression::Binary(_) => first = first.child(1),
+            _ => return true,
+        }
     }
 }
 

@@ -33,24 +33,28 @@ fn by_itself(n: Node, best: Option<usize>) -> Option<usize>
     too_high(best, n.first_word(), n.height())
 }
 
-// Each subscript in an expression. A chain of operators goes on to its left side.
+// Each subscript in an expression. A chain of operators goes on to its left side, in a loop, so that a long one takes no more stack.
 fn subscripts(n: Node, best: Option<usize>) -> Option<usize>
     ensures { With best result (λ t. subscripts (expr_at t n.entry.pool.now n.entry.at)) }
 {
-    match n.expression() {
-        Expression::Element => {
-            let a = n.child(1);
-            subscripts(a, by_itself(a, best))
+    let mut rest = n;
+    let mut x = best;
+    loop {
+        match rest.expression() {
+            Expression::Element => {
+                rest = rest.child(1);
+                x = by_itself(rest, x);
+            }
+            Expression::Minus
+            | Expression::Complement
+            | Expression::Brackets
+            | Expression::Conversion(..) => { rest = rest.child(1) }
+            Expression::Binary(_) => {
+                x = subscripts(rest.child(2), x);
+                rest = rest.child(1);
+            }
+            _ => return x,
         }
-        Expression::Minus
-        | Expression::Complement
-        | Expression::Brackets
-        | Expression::Conversion(..) => { subscripts(n.child(1), best) }
-        Expression::Binary(_) => {
-            let x = subscripts(n.child(2), best);
-            subscripts(n.child(1), x)
-        }
-        _ => best,
     }
 }
 
@@ -97,16 +101,19 @@ fn label_place(n: Node) -> u16
     }
 }
 
-// The place of the first label.
+// The place of the first label. A loop, so that a long list takes no more stack.
 fn first_label(n: Node) -> u16
     requires { 0 < n.at }
     ensures { result ≡ first_place (labels_at n.entry.pool.now n.entry.at) }
 {
-    let before = n.child(1);
-    if before.at == 0 {
-        return label_place(n.child(2));
+    let mut rest = n;
+    loop {
+        let before = rest.child(1);
+        if before.at == 0 {
+            return label_place(rest.child(2));
+        }
+        rest = before;
     }
-    first_label(before)
 }
 
 // The tests of an arm.
@@ -160,49 +167,57 @@ fn branches(n: Node, best: Option<usize>) -> Option<usize>
     statements(n.child(2), x)
 }
 
-// A list of statements, which goes on to what stands before its last one.
+// A list of statements, which goes on to what stands before its last one, in a loop, so that a long one takes no more stack.
 #[cycle(walk)]
 fn statements(n: Node, best: Option<usize>) -> Option<usize>
     ensures { With best result (λ t. listed t n.entry.pool.now n.entry.at) }
 {
-    let a = n.child(1);
-    let b = n.child(2);
-    match n.statement() {
-        Statement::Nothing => best,
-        Statement::Assignment => assignment(n, best),
-        Statement::Choice => {
-            let x = measured(a, best);
-            branches(b, x)
-        }
-        Statement::Selection => {
-            let x = selector(a, best);
-            arms(b, a.height(), x)
-        }
-        Statement::Loop => {
-            let x = head(a, best);
-            statements(b, x)
-        }
-        Statement::List => {
-            let x = statements(b, best);
-            statements(a, x)
+    let mut rest = n;
+    let mut x = best;
+    loop {
+        let a = rest.child(1);
+        let b = rest.child(2);
+        match rest.statement() {
+            Statement::Nothing => return x,
+            Statement::Assignment => return assignment(rest, x),
+            Statement::Choice => {
+                x = measured(a, x);
+                return branches(b, x);
+            }
+            Statement::Selection => {
+                x = selector(a, x);
+                return arms(b, a.height(), x);
+            }
+            Statement::Loop => {
+                x = head(a, x);
+                rest = b;
+            }
+            Statement::List => {
+                x = statements(b, x);
+                rest = a;
+            }
         }
     }
 }
 
-// The arms of a CASE whose selector has the height `h`, and its ELSE list.
+// The arms of a CASE whose selector has the height `h`, and its ELSE list. A loop, so that many arms take no more stack.
 #[cycle(walk)]
 fn arms(n: Node, h: usize, best: Option<usize>) -> Option<usize>
     requires { 4 * h ≤ length n.pool.now }
     ensures { With best result (λ t. statement_faults (arms_at t n.entry.pool.now n.entry.at) h) }
 {
-    let a = n.child(1);
-    match n.arms() {
-        Arms::Nothing => best,
-        Arms::Otherwise => statements(a, best),
-        Arms::Arm => {
-            let x = tests(a, h, best);
-            let y = statements(n.child(2), x);
-            arms(n.child(3), h, y)
+    let mut rest = n;
+    let mut x = best;
+    loop {
+        let a = rest.child(1);
+        match rest.arms() {
+            Arms::Nothing => return x,
+            Arms::Otherwise => return statements(a, x),
+            Arms::Arm => {
+                x = tests(a, h, x);
+                x = statements(rest.child(2), x);
+                rest = rest.child(3);
+            }
         }
     }
 }

@@ -108,26 +108,25 @@ fn loop_name(vars: Variables, loops: &[u16], place: u16, best: Option<usize>) ->
 
 // ---- expressions
 
-// The unknown names of an expression.
+// The unknown names of an expression. A loop, so that a long chain of operators takes no more stack.
 fn unknown(vars: Variables, n: Node, best: Option<usize>) -> Option<usize>
     ensures { result ≡ after best
         (unknown_at (variables_in vars.entry.text.now vars.entry.pool.now vars.entry.table.now) vars.entry.text.now n.entry.pool.now n.entry.at) }
 {
-    match n.expression() {
-        Expression::Variable => known(vars, n.place(), best),
-        Expression::Element => {
-            let x = known(vars, n.place(), best);
-            unknown(vars, n.child(1), x)
+    let mut rest = n;
+    let mut x = best;
+    loop {
+        match rest.expression() {
+            Expression::Variable => return known(vars, rest.place(), x),
+            Expression::Element => x = known(vars, rest.place(), x),
+            Expression::Minus
+            | Expression::Complement
+            | Expression::Brackets
+            | Expression::Conversion(..) => {}
+            Expression::Binary(_) => x = unknown(vars, rest.child(2), x),
+            _ => return x,
         }
-        Expression::Minus
-        | Expression::Complement
-        | Expression::Brackets
-        | Expression::Conversion(..) => { unknown(vars, n.child(1), best) }
-        Expression::Binary(_) => {
-            let x = unknown(vars, n.child(2), best);
-            unknown(vars, n.child(1), x)
-        }
-        _ => best,
+        rest = rest.child(1);
     }
 }
 
@@ -213,7 +212,7 @@ fn repeat(
     statements(vars, loops, depth + 1, n.child(2), x)
 }
 
-// The faults of the statements at a node, `depth` FORs being around.
+// The faults of the statements at a node, `depth` FORs being around. A loop, so that a long list takes no more stack.
 #[cycle(walk)]
 pub fn statements(
     vars: Variables,
@@ -228,28 +227,32 @@ pub fn statements(
         loops.old depth n.entry.at))
         × Kept depth loops.old loops.new }
 {
-    let a = n.child(1);
-    let b = n.child(2);
-    match n.statement() {
-        Statement::Nothing => best,
-        Statement::Assignment => assignment(vars, &loops[..depth], n, best),
-        Statement::Choice => {
-            let x = unknown(vars, a, best);
-            branches(vars, loops, depth, b, x)
-        }
-        Statement::Selection => {
-            let x = unknown(vars, a, best);
-            arms(vars, loops, depth, b, x)
-        }
-        Statement::Loop => repeat(vars, loops, depth, n, best),
-        Statement::List => {
-            let x = statements(vars, loops, depth, b, best);
-            statements(vars, loops, depth, a, x)
+    let mut rest = n;
+    let mut x = best;
+    loop {
+        let a = rest.child(1);
+        let b = rest.child(2);
+        match rest.statement() {
+            Statement::Nothing => return x,
+            Statement::Assignment => return assignment(vars, &loops[..depth], rest, x),
+            Statement::Choice => {
+                let y = unknown(vars, a, x);
+                return branches(vars, loops, depth, b, y);
+            }
+            Statement::Selection => {
+                let y = unknown(vars, a, x);
+                return arms(vars, loops, depth, b, y);
+            }
+            Statement::Loop => return repeat(vars, loops, depth, rest, x),
+            Statement::List => {
+                x = statements(vars, loops, depth, b, x);
+                rest = a;
+            }
         }
     }
 }
 
-// The arms of a CASE and its ELSE list.
+// The arms of a CASE and its ELSE list. A loop, so that many arms take no more stack.
 #[cycle(walk)]
 fn arms(
     vars: Variables,
@@ -264,12 +267,16 @@ fn arms(
         loops.old depth n.entry.at))
         × Kept depth loops.old loops.new }
 {
-    match n.arms() {
-        Arms::Nothing => best,
-        Arms::Otherwise => statements(vars, loops, depth, n.child(1), best),
-        Arms::Arm => {
-            let x = statements(vars, loops, depth, n.child(2), best);
-            arms(vars, loops, depth, n.child(3), x)
+    let mut rest = n;
+    let mut x = best;
+    loop {
+        match rest.arms() {
+            Arms::Nothing => return x,
+            Arms::Otherwise => return statements(vars, loops, depth, rest.child(1), x),
+            Arms::Arm => {
+                x = statements(vars, loops, depth, rest.child(2), x);
+                rest = rest.child(3);
+            }
         }
     }
 }

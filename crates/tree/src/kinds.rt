@@ -138,14 +138,17 @@ impl<'a> Node<'a> {
         self.word(0) == 31
     }
 
-    // The place of the expression's first word.
+    // The place of the expression's first word. A loop, so that a long chain of operators takes no more stack.
     pub fn first_word(self) -> u16
         ensures { (t : List ℕ) → result ≡ first_word (expr_at t self.entry.pool.now self.entry.at) }
     {
-        match self.expression() {
-            Expression::Nothing => 0,
-            Expression::Binary(_) => self.child(1).first_word(),
-            _ => self.place(),
+        let mut rest = self;
+        loop {
+            match rest.expression() {
+                Expression::Nothing => return 0,
+                Expression::Binary(_) => rest = rest.child(1),
+                _ => return rest.place(),
+            }
         }
     }
 

@@ -74,13 +74,13 @@ module _ (p : List ℕ) (d : ℕ) (best : Option ℕ) where
       sym (ap (λ ds. sooner best (soonest (T.declaration_faults ds))) (ap (declared_at t p) e ∙ declared_nil t p) ∙ ap (sooner best) soonest_none ∙ sooner_none best)
 
   -- the last declaration first
-  pub more_declarations : (x r : Option ℕ) → 0 < d → IsDeclaration p (child_of p d 2) best x → IsDeclarations p (child_of p d 1) x r → IsDeclarations p d best r
-  more_declarations x r s hx hr t =
+  pub more_declarations : (x : Option ℕ) → 0 < d → IsDeclaration p (child_of p d 2) best x → (t : List ℕ)
+      → sooner x (soonest (T.declaration_faults (declared_at t p (child_of p d 1)))) ≡ sooner best (soonest (T.declaration_faults (declared_at t p d)))
+  more_declarations x s hx t =
       let before = soonest (T.declaration_faults (declared_at t p (child_of p d 1))) in
       let last = soonest (T.declaration_faults (declaration_at t p (child_of p d 2))) in
       let node = stepped (declared_at t p) (λ j. declared_step t p j (declared_at t p)) (declared_node t p) d s in
-      hr t
-      ∙ ap (λ n. sooner n before) (hx t)
+      ap (λ n. sooner n before) (hx t)
       ∙ sooner_assoc best last before
       ∙ ap (sooner best)
       (sooner_comm last before

@@ -64,14 +64,12 @@ module _ (p : List ℕ) (u : Ty) where
       sym (ap (λ ls. sooner best (soonest (T.labels_faults (some u) ls))) (ap (labels_at p) e ∙ labels_nil p) ∙ ap (sooner best) soonest_none ∙ sooner_none best)
 
   -- the last label first
-  pub labels_more : (i : ℕ) (best x y r : Option ℕ) → 0 < i → x ≡ soonest (T.label_faults u (label_at p (child_of p i 2))) → y ≡ sooner best x
-      → r ≡ sooner y (soonest (T.labels_faults (some u) (labels_at p (child_of p i 1))))
-      → r ≡ sooner best (soonest (T.labels_faults (some u) (labels_at p i)))
-  labels_more i best x y r s hx hy hr =
+  pub labels_more : (i : ℕ) (best x y : Option ℕ) → 0 < i → x ≡ soonest (T.label_faults u (label_at p (child_of p i 2))) → y ≡ sooner best x
+      → sooner y (soonest (T.labels_faults (some u) (labels_at p (child_of p i 1)))) ≡ sooner best (soonest (T.labels_faults (some u) (labels_at p i)))
+  labels_more i best x y s hx hy =
       let before = soonest (T.labels_faults (some u) (labels_at p (child_of p i 1))) in
       let node = stepped (labels_at p) (λ j. labels_step p j (labels_at p)) (labels_node p) i s in
-      hr
-      ∙ ap (λ n. sooner n before) hy
+      ap (λ n. sooner n before) hy
       ∙ sooner_assoc best x before
       ∙ ap (sooner best)
       (sooner_comm x before

@@ -150,16 +150,18 @@ fn label(t: Ty, n: Node) -> Option<usize>
     bound_fault(t, n)
 }
 
-// The labels at a node, where the selector has the type `t`.
-#[tactic(auto, using(crate::proofs::Owns::labels_none, crate::proofs::Owns::labels_more))]
+// The labels at a node, where the selector has the type `t`. A loop, so that many labels take no more stack.
 fn labels(t: Ty, n: Node, best: Option<usize>) -> Option<usize>
     ensures { result ≡ sooner best (soonest (T.labels_faults (some t) (labels_at n.entry.pool.now n.entry.at))) }
 {
-    if n.at == 0 {
-        return best;
+    let mut rest = n;
+    let mut y = best;
+    while rest.at != 0 {
+        let x = label(t, rest.child(2));
+        y = sooner_of(y, x);
+        rest = rest.child(1);
     }
-    let x = label(t, n.child(2));
-    labels(t, n.child(1), sooner_of(best, x))
+    y
 }
 
 // Those of a faulty selector aren't judged.
@@ -174,9 +176,8 @@ fn labels_of(s: Settled, n: Node, best: Option<usize>) -> Option<usize>
 
 // ---- statements
 
-// The faults of the statements at a node, `depth` FORs being around.
+// The faults of the statements at a node, `depth` FORs being around. A loop, so that a long list takes no more stack.
 #[cycle(walk)]
-#[tactic(auto, using(crate::proofs::Fronts::walk_none, crate::proofs::Fronts::walk_assign))]
 pub fn statements(
     vars: Variables,
     loops: &mut [u16],
@@ -188,15 +189,21 @@ pub fn statements(
     ensures { Walks vars.entry.text.now vars.entry.pool.now vars.entry.table.now loops.old loops.new depth
         (front_at vars.entry.text.now n.entry.pool.now n.entry.at) best result }
 {
-    match n.statement() {
-        Statement::Nothing => best,
-        Statement::Assignment => sooner_of(best, assignment(vars, &loops[..depth], n)),
-        Statement::Choice => choice(vars, loops, depth, n, best),
-        Statement::Selection => selection(vars, loops, depth, n, best),
-        Statement::Loop => repeat(vars, loops, depth, n, best),
-        Statement::List => {
-            let x = statements(vars, loops, depth, n.child(2), best);
-            statements(vars, loops, depth, n.child(1), x)
+    let mut rest = n;
+    let mut x = best;
+    loop {
+        match rest.statement() {
+            Statement::Nothing => return x,
+            Statement::Assignment => {
+                return sooner_of(x, assignment(vars, &loops[..depth], rest));
+            }
+            Statement::Choice => return choice(vars, loops, depth, rest, x),
+            Statement::Selection => return selection(vars, loops, depth, rest, x),
+            Statement::Loop => return repeat(vars, loops, depth, rest, x),
+            Statement::List => {
+                x = statements(vars, loops, depth, rest.child(2), x);
+                rest = rest.child(1);
+            }
         }
     }
 }
@@ -258,9 +265,8 @@ fn repeat(
     statements(vars, loops, depth + 1, n.child(2), x)
 }
 
-// The arms of a CASE and its ELSE list.
+// The arms of a CASE and its ELSE list. A loop, so that many arms take no more stack.
 #[cycle(walk)]
-#[tactic(auto, using(crate::proofs::Fronts::no_arms_lem))]
 fn arms(
     vars: Variables,
     loops: &mut [u16],
@@ -273,13 +279,17 @@ fn arms(
     ensures { WalksArms vars.entry.text.now vars.entry.pool.now vars.entry.table.now loops.old loops.new depth
         (arms_at vars.entry.text.now n.entry.pool.now n.entry.at) s best result }
 {
-    match n.arms() {
-        Arms::Nothing => best,
-        Arms::Otherwise => statements(vars, loops, depth, n.child(1), best),
-        Arms::Arm => {
-            let x = labels_of(s, n.child(1), best);
-            let y = statements(vars, loops, depth, n.child(2), x);
-            arms(vars, loops, depth, n.child(3), s, y)
+    let mut rest = n;
+    let mut y = best;
+    loop {
+        match rest.arms() {
+            Arms::Nothing => return y,
+            Arms::Otherwise => return statements(vars, loops, depth, rest.child(1), y),
+            Arms::Arm => {
+                let x = labels_of(s, rest.child(1), y);
+                y = statements(vars, loops, depth, rest.child(2), x);
+                rest = rest.child(3);
+            }
         }
     }
 }

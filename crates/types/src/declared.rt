@@ -71,13 +71,15 @@ fn declaration(n: Node, best: Option<usize>) -> Option<usize>
     sooner_of(best, sooner_of(b, v))
 }
 
-// All declarations, from the node `n` on.
+// All declarations, from the node `n` on. A loop, so that a long list takes no more stack.
 pub fn declarations(n: Node, best: Option<usize>) -> Option<usize>
     ensures { IsDeclarations n.entry.pool.now n.entry.at best result }
 {
-    if n.at == 0 {
-        return best;
+    let mut rest = n;
+    let mut x = best;
+    while rest.at != 0 {
+        x = declaration(rest.child(2), x);
+        rest = rest.child(1);
     }
-    let x = declaration(n.child(2), best);
-    declarations(n.child(1), x)
+    x
 }

@@ -1,8 +1,9 @@
 // One walk of an expression gives its type, or that it is made of numbers only, or that it is faulty.
-ghost use Rattle.std.specs.Prelude.{◌≡◌, not, ◌&&◌};
+ghost use Rattle.std.specs.Prelude.{◌≡◌, not, ◌&&◌, ◌<◌};
 ghost use Rattle.std.specs.Bool.{then_some};
 ghost use Rattle.std.specs.Option.{option_or};
 ghost use Rattle.paper.specs.Types as Y;
+ghost use Rattle.tree.specs.Nodes.{child_of};
 ghost use Rattle.variables.specs.Table.{variables_in};
 ghost use Rattle.types.specs.Says.{fault_of, is_open, Settling, JudgedAt, SettledAt};
 ghost use Rattle.types.specs.Joins.{Unless, IsOperation, offered_by, NamedAs, ElementAs, NegatedAs, ComplementAs, ConvertedAs, OperatedAs, JoinedAs};
@@ -239,29 +240,42 @@ fn joined(n: Node, o: Op, x: Judged, y: Judged) -> Judged
     operated(n, o, v, w)
 }
 
-// The expression at a node.
+// The operand `k` of the expression at a node.
+#[cycle(judging)]
+fn operand(vars: Variables, loops: &[u16], n: Node, k: usize) -> Judged
+    requires { (0 < n.at) × (k < 4) }
+    ensures { JudgedAt (variables_in vars.entry.text.now vars.entry.pool.now vars.entry.table.now) vars.entry.text.now loops.now
+        n.entry.pool.now (child_of n.entry.pool.now n.entry.at k) result }
+{
+    judge(vars, loops, n.child(k))
+}
+
+// The expression at a node. One call for the first operand of whatever kind, and one for the second, so that a long chain takes less stack.
+#[cycle(judging)]
 #[tactic(auto, using(crate::proofs::Walking::walks))]
 pub fn judge(vars: Variables, loops: &[u16], n: Node) -> Judged
     ensures { JudgedAt (variables_in vars.entry.text.now vars.entry.pool.now vars.entry.table.now) vars.entry.text.now loops.now
         n.entry.pool.now n.entry.at result }
 {
-    match n.expression() {
-        Expression::Nothing | Expression::Truth(_) => Judged::Typed(Ty::Bool),
-        Expression::Number => Judged::Numbers,
-        Expression::Variable => named(vars, n.place(), false, None),
-        Expression::Element => element(vars, loops, n, judge(vars, loops, n.child(1))),
-        Expression::Minus => negated(n.place(), judge(vars, loops, n.child(1))),
-        Expression::Complement => complement(n, judge(vars, loops, n.child(1))),
-        Expression::Brackets => judge(vars, loops, n.child(1)),
-        Expression::Conversion(t, u) => {
-            let x = judge(vars, loops, n.child(1));
-            converted(n, t, u, x)
-        }
+    let e = n.expression();
+    match e {
+        Expression::Nothing | Expression::Truth(_) => return Judged::Typed(Ty::Bool),
+        Expression::Number => return Judged::Numbers,
+        Expression::Variable => return named(vars, n.place(), false, None),
+        _ => {}
+    }
+    let x = operand(vars, loops, n, 1);
+    match e {
+        Expression::Element => element(vars, loops, n, x),
+        Expression::Minus => negated(n.place(), x),
+        Expression::Complement => complement(n, x),
+        Expression::Conversion(t, u) => converted(n, t, u, x),
         Expression::Binary(o) => {
-            let x = judge(vars, loops, n.child(1));
-            let y = judge(vars, loops, n.child(2));
+            let y = operand(vars, loops, n, 2);
             joined(n, o, x, y)
         }
+        // Brackets
+        _ => x,
     }
 }
 

@@ -2,10 +2,8 @@
 use mathlib.Core.Path.{◌≡◌, refl, sym, ap, ap₂, subst, fun_ext, ◌∙◌}
 use mathlib.Core.Bool.{Bool, true, false}
 use mathlib.Core.List.{List}
-use Prim.Native.Nat.{ℕ, zero, suc, ◌+◌, ◌*◌, ◌-◌, ◌<◌, min}
+use Prim.Native.Nat.{ℕ, zero, suc, ◌+◌, ◌<◌, min}
 use native.Mathlib.Omega.{arith}
-use mir.Syntax.{w64}
-use mir.Val.{SFits}
 use lib.IntN.{ℤ, ◌+ℤ◌, ◌-ℤ◌, nat_abs}
 use lib.ListN.{length, set, length-set}
 use lib.Seq.{set-set}
@@ -35,7 +33,7 @@ use Rattle.unwind.specs.Walks.{said, Goes, Linked, behind, UnwindDid}
 use Rattle.unwind.specs.Loops.{cell_of_head, SetDid, body_of, turns_from, TurnsReady, TurnsDid}
 use Rattle.unwind.proofs.Walking.{weighs}
 use Rattle.unwind.proofs.Fronts.{behind_both, front_done}
-use Rattle.unwind.proofs.Values.{next_small, back, back_small, sum_back, next_back, passed_back}
+use Rattle.unwind.proofs.Values.{next_small, back, next_back, passed_back}
 
 -- ---- answers
 
@@ -80,14 +78,13 @@ module _ (pass : ℤ → ℕ → Answer Unwound) (c b v : ℤ) (w : ℕ) where
   unfolding turns
   turns_more f x e h = rw (e, h)
 
--- ---- the value as it comes back from its bits, and what the next one asks
+-- ---- the passes left to go
 
-module _ {env : State} {old : List ℕ} {h : Head} {v : ℤ} {body n w before : ℕ} (ready : TurnsReady env old h v body n w before) where
-  v_back : back v ≡ v
-  v_back = back_small v ready.small.1
-
-  pub sum_asks : SFits w64 (back v +ℤ back h.by)
-  sum_asks = sum_back v h.by ready.small.1 ready.small.0
+-- what the passes from z on leave, behind the list of x, is what those from v on leave
+abbrev pub Carries : List Variable → List ℕ → List ℕ → State → State → List ℕ → List ℕ → Head → ℕ → ℤ → ℤ → ℕ → ℕ → ℕ → Walk → Type 0
+Carries vs t p env mid old new h body v z n w before x =
+    (env' : State) (end : List ℕ) (r : Result Walk Refusal) → TurnsDid vs t p mid env' new end h z body x.count x.weight x.root r
+    → TurnsDid vs t p env env' old end h v body n w before r
 
 -- ---- the passes as the definition has them
 
@@ -107,9 +104,8 @@ module _ (vs : List Variable) (t p : List ℕ) {env : State} {old : List ℕ} {h
   refusal y q f l e = sym (ap (behind sofar) (turns_stop pass h.by h.to v w f y q (omega arith) e))
 
   -- no weight left for the variable
-  pub set_stops : {new : List ℕ} {e : Refusal} → SetDid old new h (back v) n w (Err e) → TurnsDid vs t p env env old new h v body n w before (Err e)
-  set_stops {new} {e} set-did =
-      let d = subst (λ z. SetDid old new h z n w (Err e)) (v_back ready) set-did in
+  pub set_stops : {new : List ℕ} {e : Refusal} → SetDid old new h v n w (Err e) → TurnsDid vs t p env env old new h v body n w before (Err e)
+  set_stops d =
       record {
         kept = refl;
         only = λ x. refl;
@@ -122,13 +118,7 @@ module _ (vs : List Variable) (t p : List ℕ) {env : State} {old : List ℕ} {h
 
   -- ---- the variable set and the body walked
 
-  module _ {m1 : List ℕ} {e : ℕ} {s : Walk} (set-did : SetDid old m1 h (back v) n w (Ok s)) (put : e ≡ encode h.ty (back v)) where
-    d : SetDid old m1 h v n w (Ok s)
-    d = subst (λ z. SetDid old m1 h z n w (Ok s)) (v_back ready) set-did
-
-    ee : e ≡ encode h.ty v
-    ee = put ∙ ap (encode h.ty) (v_back ready)
-
+  module _ {m1 : List ℕ} {e : ℕ} {s : Walk} (d : SetDid old m1 h v n w (Ok s)) (put : e ≡ encode h.ty v) where
     light : heavier h.place 1 w ≡ given (w + 1)
     light = weighs h.place 1 w (omega (arith, d.good))
 
@@ -145,7 +135,7 @@ module _ (vs : List Variable) (t p : List ℕ) {env : State} {old : List ℕ} {h
       body_said : Inside (length env) vs → length env ≡ length (cells_of vs) → in_body v (w + 1) ≡ said m2 r
       body_said ins size =
           let long = length-set env h.cell e in
-          ap₂ (λ en m. unwind vs (T.front_at t p body S.done) en no_selector m) (ap (set env h.cell) (sym ee)) (sym d.good.2)
+          ap₂ (λ en m. unwind vs (T.front_at t p body S.done) en no_selector m) (ap (set env h.cell) (sym put)) (sym d.good.2)
           ∙ front_done vs (set env h.cell e) (T.front_at t p body) s.weight (said m2 r)
           (did.front (subst (λ l. Inside l vs) (sym long) ins) (long ∙ size)) no_selector
 
@@ -210,7 +200,7 @@ module _ (vs : List Variable) (t p : List ℕ) {env : State} {old : List ℕ} {h
       said_last = ap₂ unwound lists (second.weight ∙ first.weight)
 
       -- a pass weighs at least 1
-      passed_goes : Goes (n + min 1 before) w y
+      pub passed_goes : Goes (n + min 1 before) w y
       passed_goes =
           let a = d.good in
           let g : Goes s.count s.weight b = did.goes in
@@ -222,18 +212,12 @@ module _ (vs : List Variable) (t p : List ℕ) {env : State} {old : List ℕ} {h
             grown = omega (arith, a.0, a.1, a.2, g.grown, first.grown, first.weight, second.grown, second.weight);
           }
 
-      passed_heavier : w < y.weight
-      passed_heavier = omega (arith, (d.good).2, goes_body.heavy, first.weight, second.weight)
-
-      pub passed_falls : 4194304 * (3001 - y.weight) + 32 * body < 4194304 * (3001 - w) + 32 * body
-      passed_falls = omega (arith, passed_heavier, passed_goes.light)
-
       passed_long : length m4 ≡ length old
       passed_long = second.long ∙ first.long ∙ did.long ∙ d.long
 
       -- the next value as it comes back
       abbrev next : ℤ
-      next = back (back v +ℤ back h.by)
+      next = back (v +ℤ back h.by)
 
       ends : (end : Bool) → passed (back h.by) (back h.to) next ≡ end → passed h.by h.to (v +ℤ h.by) ≡ end
       ends end e = passed_back h.by h.to v end ready.small.0 ready.small.2 ready.small.1 e
@@ -283,9 +267,8 @@ module _ (vs : List Variable) (t p : List ℕ) {env : State} {old : List ℕ} {h
         bodies_same =
             fun_ext (λ z. fun_ext (λ m. ap (λ en. unwind vs (T.front_at t p body S.done) en no_selector m) (env_only did (encode h.ty z))))
 
-        pub more_passes : {env2 : State} {m5 : List ℕ} {r : Result Walk Refusal} → TurnsDid vs t p env1 env2 m4 m5 h next body y.count y.weight y.root r
-            → TurnsDid vs t p env env2 old m5 h v body n w before r
-        more_passes {env2} {m5} {r} there =
+        pub more_passes : Carries vs t p env env1 old m4 h body v next n w before y
+        more_passes env2 m5 r there =
             record {
               kept = rest.kept ∙ env_long did;
               only = λ x. rest.only x ∙ env_only did x;

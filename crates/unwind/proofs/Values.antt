@@ -55,13 +55,10 @@ back z = to_z w64 (of_z w64 z)
 pub back_small : (z : ℤ) → Small z → back z ≡ z
 back_small z l = to_z-of_z (small_fits z l)
 
-pub sum_back : (v c : ℤ) → Small v → Small c → SFits w64 (back v +ℤ back c)
-sum_back v c lv lc = rw (back_small v lv, back_small c lc) (sum_fits v c lv lc)
+pub next_back : (v c : ℤ) → Small v → Small c → back (v +ℤ back c) ≡ v +ℤ c
+next_back v c lv lc = rw (back_small c lc) (to_z-of_z (sum_fits v c lv lc))
 
-pub next_back : (v c : ℤ) → Small v → Small c → back (back v +ℤ back c) ≡ v +ℤ c
-next_back v c lv lc = rw (back_small v lv, back_small c lc) (to_z-of_z (sum_fits v c lv lc))
-
-pub passed_back : (c b v : ℤ) (t : Bool) → Small c → Small b → Small v → passed (back c) (back b) (back (back v +ℤ back c)) ≡ t → passed c b (v +ℤ c) ≡ t
+pub passed_back : (c b v : ℤ) (t : Bool) → Small c → Small b → Small v → passed (back c) (back b) (back (v +ℤ back c)) ≡ t → passed c b (v +ℤ c) ≡ t
 passed_back c b v t lc lb lv e =
     sym (ap (λ x. passed x b (v +ℤ c)) (back_small c lc))
     ∙ sym (ap₂ (passed (back c)) (back_small b lb) (next_back v c lv lc))

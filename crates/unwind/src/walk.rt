@@ -187,7 +187,7 @@ fn repeat(
     r
 }
 
-// The passes from `v` on; `before` are those so far.
+// The passes from `v` on; `before` are those so far. A loop, so that many passes take no more stack.
 #[cycle(walk)]
 fn turns(
     vars: Variables,
@@ -203,14 +203,22 @@ fn turns(
     requires { TurnsReady env.old out.old h v body.at count weight before }
     ensures { TurnsDid (listed_in vars.entry.text.now vars.entry.pool.now vars.entry.table.now) vars.entry.text.now body.entry.pool.now env.old env.new out.old out.new h v body.entry.at count weight before result }
 {
-    let s = set_variable(out, h, v, count, weight)?;
     let c = h.cell;
-    env[c] = residue_of(h.ty, v);
-    let b = unwind(vars, env, body, out, s.count, s.weight)?;
-    let x = linked(out, b.count, s.root, b.root, b.weight);
-    let y = linked(out, x.count, before, x.root, x.weight);
-    if passed(h.by, h.to, v + h.by) {
-        return Ok(y);
+    let mut next = v;
+    let mut passes = Walk {
+        count,
+        root: before,
+        weight,
+    };
+    loop {
+        let s = set_variable(out, h, next, passes.count, passes.weight)?;
+        env[c] = residue_of(h.ty, next);
+        let b = unwind(vars, env, body, out, s.count, s.weight)?;
+        let x = linked(out, b.count, s.root, b.root, b.weight);
+        passes = linked(out, x.count, passes.root, x.root, x.weight);
+        next += h.by;
+        if passed(h.by, h.to, next) {
+            return Ok(passes);
+        }
     }
-    turns(vars, env, h, v + h.by, body, out, y.count, y.weight, y.root)
 }

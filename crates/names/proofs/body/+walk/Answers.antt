@@ -1,4 +1,6 @@
 -- The measure is twice the node, one more for a list and arms, and two more for the lists of an IF, whose own node may be nil.
+-- A turn of a loop leaves the faults of what is left, after the soonest so far.
+use borrow.Author.Rules.{rules}
 use mathlib.Core.Path.{refl, ap, ◌∙◌}
 use native.Mathlib.Omega.{arith}
 use Rattle.names.specs.Walks.{after}
@@ -10,21 +12,29 @@ use Rattle.names.proofs.body.+walk.Goals as goal
 pub arms-returns-in-Nothing : goal.arms-returns-in-Nothing
 arms-returns-in-Nothing t c =
     let A = c.args in
-    (stays A.best _ (no_arms _ A.vars.text.now A.n.pool.now A.loops.now A.depth A.n.at c.in-Nothing.ensures), λ k l. refl)
+    let L = c.loop-x in
+    (stays L.x _ (no_arms _ A.vars.text.now L.rest.pool.now L.loops A.depth L.rest.at c.in-Nothing.ensures) ∙ L.invariant.3, L.invariant.2)
 
 pub arms-returns-in-Otherwise : goal.arms-returns-in-Otherwise
 arms-returns-in-Otherwise t c =
     let A = c.args in
-    let s = rw (c.child.ensures.0, c.child.ensures.1) at c.statements.ensures in
-    (alone A.best _ _ _ s.0 (else_faults _ A.vars.text.now A.n.pool.now A.loops.now A.depth A.n.at c.in-Otherwise.ensures), s.1)
+    let L = c.loop-x in
+    let s = rw (c.child.ensures.0, c.child.ensures.1) at c.statements.ensures in (
+      alone L.x _ _ _ s.0 (else_faults _ A.vars.text.now L.rest.pool.now L.loops A.depth L.rest.at c.in-Otherwise.ensures) ∙ L.invariant.3,
+      λ k l. s.1 k l ∙ L.invariant.2 k l,
+    )
 
-pub arms-returns-in-Arm : goal.arms-returns-in-Arm
-arms-returns-in-Arm t c =
+pub arms-loop-x-preserved : goal.arms-loop-x-preserved
+arms-loop-x-preserved t c =
     let A = c.args in
+    let L = c.loop-x in
     let s = rw (c.child-in-Arm.ensures.0, c.child-in-Arm.ensures.1) at c.statements-x.ensures in
-    let q = rw (c.child-in-Arm-2.ensures.0, c.child-in-Arm-2.ensures.1) at c.arms-in-Arm.ensures in (
-      then A.best _ _ _ _ _ s.0 q.0 (arm_faults_lem _ A.vars.text.now A.n.pool.now A.loops.now A.depth A.n.at _ s.1 c.in-Arm.ensures),
-      λ k l. q.1 k l ∙ s.1 k l,
+    let r = c.child-rest.ensures in (
+      search rules,
+      search rules,
+      λ k l. s.1 k l ∙ L.invariant.2 k l,
+      rw (r.0, r.1) (then L.x _ _ _ _ _ s.0 refl (arm_faults_lem _ A.vars.text.now L.rest.pool.now L.loops A.depth L.rest.at _ s.1 c.in-Arm.ensures))
+          ∙ L.invariant.3,
     )
 
 pub repeat-returns : goal.repeat-returns
@@ -45,42 +55,58 @@ repeat-returns t c =
 pub statements-returns-in-Nothing : goal.statements-returns-in-Nothing
 statements-returns-in-Nothing t c =
     let A = c.args in
-    (stays A.best _ (no_statements _ A.vars.text.now A.n.pool.now A.loops.now A.depth A.n.at c.in-Nothing.ensures), λ k l. refl)
+    let L = c.loop-x in
+    (stays L.x _ (no_statements _ A.vars.text.now L.rest.pool.now L.loops A.depth L.rest.at c.in-Nothing.ensures) ∙ L.invariant.3, L.invariant.2)
 
 pub statements-returns-in-Assignment : goal.statements-returns-in-Assignment
 statements-returns-in-Assignment t c =
-    let A = c.args in (
-      alone A.best _ _ _
-          (c.assignment.ensures ∙ ap (after A.best) (part_assignment _ A.vars.text.now A.n.pool.now A.loops.now A.depth (omega (arith, c.requires)) _ _))
-          (assignment_faults _ A.vars.text.now A.n.pool.now A.loops.now A.depth A.n.at c.in-Assignment.ensures),
-      λ k l. refl,
+    let A = c.args in
+    let L = c.loop-x in (
+      alone L.x _ _ _
+          (c.assignment.ensures ∙ ap (after L.x) (part_assignment _ A.vars.text.now L.rest.pool.now L.loops A.depth (omega (arith, c.requires, L.invariant.1)) _ _))
+          (assignment_faults _ A.vars.text.now L.rest.pool.now L.loops A.depth L.rest.at c.in-Assignment.ensures)
+          ∙ L.invariant.3,
+      L.invariant.2,
     )
 
 pub statements-returns-in-Choice : goal.statements-returns-in-Choice
 statements-returns-in-Choice t c =
     let A = c.args in
-    let x = rw (c.child-a.ensures.0, c.child-a.ensures.1) at c.unknown-x.ensures in
-    let s = rw (c.child-b.ensures.0, c.child-b.ensures.1) at c.branches.ensures in
-    (then A.best _ _ _ _ _ x s.0 (choice_faults _ A.vars.text.now A.n.pool.now A.loops.now A.depth A.n.at c.in-Choice.ensures), s.1)
+    let L = c.loop-x in
+    let y = rw (c.child-a.ensures.0, c.child-a.ensures.1) at c.unknown-y.ensures in
+    let s = rw (c.child-b.ensures.0, c.child-b.ensures.1) at c.branches.ensures in (
+      then L.x _ _ _ _ _ y s.0 (choice_faults _ A.vars.text.now L.rest.pool.now L.loops A.depth L.rest.at c.in-Choice.ensures) ∙ L.invariant.3,
+      λ k l. s.1 k l ∙ L.invariant.2 k l,
+    )
 
 pub statements-returns-in-Selection : goal.statements-returns-in-Selection
 statements-returns-in-Selection t c =
     let A = c.args in
-    let x = rw (c.child-a.ensures.0, c.child-a.ensures.1) at c.unknown-x-in-Selection.ensures in
-    let s = rw (c.child-b.ensures.0, c.child-b.ensures.1) at c.arms.ensures in
-    (then A.best _ _ _ _ _ x s.0 (select_faults _ A.vars.text.now A.n.pool.now A.loops.now A.depth A.n.at c.in-Selection.ensures), s.1)
+    let L = c.loop-x in
+    let y = rw (c.child-a.ensures.0, c.child-a.ensures.1) at c.unknown-y-in-Selection.ensures in
+    let s = rw (c.child-b.ensures.0, c.child-b.ensures.1) at c.arms.ensures in (
+      then L.x _ _ _ _ _ y s.0 (select_faults _ A.vars.text.now L.rest.pool.now L.loops A.depth L.rest.at c.in-Selection.ensures) ∙ L.invariant.3,
+      λ k l. s.1 k l ∙ L.invariant.2 k l,
+    )
 
 pub statements-returns-in-Loop : goal.statements-returns-in-Loop
 statements-returns-in-Loop t c =
     let A = c.args in
-    let s = c.repeat.ensures in
-    (alone A.best _ _ _ s.0 (repeat_faults _ A.vars.text.now A.n.pool.now A.loops.now A.depth A.n.at c.in-Loop.ensures), s.1)
+    let L = c.loop-x in
+    let s = c.repeat.ensures in (
+      alone L.x _ _ _ s.0 (repeat_faults _ A.vars.text.now L.rest.pool.now L.loops A.depth L.rest.at c.in-Loop.ensures) ∙ L.invariant.3,
+      λ k l. s.1 k l ∙ L.invariant.2 k l,
+    )
 
-pub statements-returns-in-List : goal.statements-returns-in-List
-statements-returns-in-List t c =
+pub statements-loop-x-preserved : goal.statements-loop-x-preserved
+statements-loop-x-preserved t c =
     let A = c.args in
+    let L = c.loop-x in
     let s = rw (c.child-b.ensures.0, c.child-b.ensures.1) at c.statements-x.ensures in
-    let q = rw (c.child-a.ensures.0, c.child-a.ensures.1) at c.statements.ensures in (
-      before A.best _ _ _ _ _ s.0 q.0 (list_faults _ A.vars.text.now A.n.pool.now A.loops.now A.depth A.n.at _ s.1 c.in-List.ensures),
-      λ k l. q.1 k l ∙ s.1 k l,
+    let r = c.child-a.ensures in (
+      search rules,
+      search rules,
+      λ k l. s.1 k l ∙ L.invariant.2 k l,
+      rw (r.0, r.1) (before L.x _ _ _ _ _ s.0 refl (list_faults _ A.vars.text.now L.rest.pool.now L.loops A.depth L.rest.at _ s.1 c.in-List.ensures))
+          ∙ L.invariant.3,
     )

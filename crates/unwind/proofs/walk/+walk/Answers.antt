@@ -5,11 +5,12 @@ use native.Mathlib.Omega.{arith}
 use Rattle.std.proofs.lemmas.Result.{err_from_is_err_and}
 use Rattle.tree.specs.Trees.{expr_at}
 use Rattle.variables.specs.Table.{listed_in}
+use Rattle.unwind.proofs.Values.{back_small}
 use Rattle.unwind.proofs.Steps.{none_did, assign_node, first_refused, second_refused, both_did}
 use Rattle.unwind.proofs.Choosing.{test_refused, test_heavy, left_refused, right_refused, choice_did}
 use Rattle.unwind.proofs.Arming.{no_arms_did, else_did, test_bad, left_bad, right_bad, arm_did}
 use Rattle.unwind.proofs.Selecting.{selector_refused, select_did}
-use Rattle.unwind.proofs.Turning.{set_stops, body_stops, sum_asks, passed_falls, last_pass, turns_ready, more_passes}
+use Rattle.unwind.proofs.Turning.{set_stops, body_stops, passed_goes, last_pass, turns_ready, more_passes}
 use Rattle.unwind.proofs.Repeating.{no_head, no_pass, passes_fall, passes_ready, all_passes}
 use Rattle.unwind.proofs.walk.+walk.Goals as goal
 
@@ -168,35 +169,32 @@ select-returns t c =
 
 pub turns-returns-in_err-s : goal.turns-returns-in_err-s
 turns-returns-in_err-s t c =
-    let A = c.args in
+    let L = c.loop-s in
+    let whole = rw (back_small c.args.v c.requires.small.1) at L.invariant.2 in
     let p = err_from_is_err_and c.from_residual.result c.from_residual.ensures.1 in
-    rw (p.1, p.2) (set_stops _ _ _ c.requires c.in_err-s.ensures)
+    rw (p.1, p.2) (whole _ _ _ (set_stops _ _ _ L.invariant.1 c.in_err-s.ensures))
 
 pub turns-returns-in_err-b : goal.turns-returns-in_err-b
 turns-returns-in_err-b t c =
-    let A = c.args in
+    let L = c.loop-s in
+    let whole = rw (back_small c.args.v c.requires.small.1) at L.invariant.2 in
     let p = err_from_is_err_and c.from_residual-in_err-b.result c.from_residual-in_err-b.ensures.1 in
-    rw (p.1, p.2) (body_stops _ _ _ c.requires c.in_ok-s.ensures c.residue_of.ensures c.in_err-b.ensures)
+    rw (p.1, p.2) (whole _ _ _ (body_stops _ _ _ L.invariant.1 c.in_ok-s.ensures c.residue_of.ensures c.in_err-b.ensures))
 
 pub turns-returns-then-passed : goal.turns-returns-then-passed
 turns-returns-then-passed t c =
-    let A = c.args in
-    last_pass _ _ _ c.requires c.in_ok-s.ensures c.residue_of.ensures c.in_ok-b.ensures c.linked-x.ensures c.linked-y.ensures (sym c.passed.ensures ∙ c.if-passed.true)
+    let L = c.loop-s in
+    let whole = rw (back_small c.args.v c.requires.small.1) at L.invariant.2 in
+    whole _ _ _ (last_pass _ _ _ L.invariant.1 c.in_ok-s.ensures c.residue_of.ensures c.in_ok-b.ensures c.linked-x.ensures c.linked-passes.ensures (sym c.passed.ensures ∙ c.if-passed.true))
 
-pub turns-overflow_add-v-2 : goal.turns-overflow_add-v-2
-turns-overflow_add-v-2 t c =
-    sum_asks c.requires
-
-pub turns-turns-requires : goal.turns-turns-requires
-turns-turns-requires t c = (
-  omega (arith, passed_falls _ _ _ c.requires c.in_ok-s.ensures c.residue_of.ensures c.in_ok-b.ensures c.linked-x.ensures c.linked-y.ensures),
-  turns_ready _ _ _ c.requires c.in_ok-s.ensures c.residue_of.ensures c.in_ok-b.ensures c.linked-x.ensures c.linked-y.ensures (sym c.passed.ensures ∙ c.if-passed.false),
-)
-
-pub turns-returns : goal.turns-returns
-turns-returns t c =
-    let A = c.args in
-    more_passes _ _ _ c.requires c.in_ok-s.ensures c.residue_of.ensures c.in_ok-b.ensures c.linked-x.ensures c.linked-y.ensures (sym c.passed.ensures ∙ c.if-passed.false) c.turns.ensures
+pub turns-loop-s-preserved : goal.turns-loop-s-preserved
+turns-loop-s-preserved t c =
+    let L = c.loop-s in
+    let on = sym c.passed.ensures ∙ c.if-passed.false in (
+      omega (arith, L.invariant.0, (passed_goes _ _ _ L.invariant.1 c.in_ok-s.ensures c.residue_of.ensures c.in_ok-b.ensures c.linked-x.ensures c.linked-passes.ensures).heavy),
+      turns_ready _ _ _ L.invariant.1 c.in_ok-s.ensures c.residue_of.ensures c.in_ok-b.ensures c.linked-x.ensures c.linked-passes.ensures on,
+      λ env new r passes. L.invariant.2 env new r (more_passes _ _ _ L.invariant.1 c.in_ok-s.ensures c.residue_of.ensures c.in_ok-b.ensures c.linked-x.ensures c.linked-passes.ensures on env new r passes),
+    )
 
 pub unwind-returns-in-Nothing : goal.unwind-returns-in-Nothing
 unwind-returns-in-Nothing t c =
