@@ -9,13 +9,14 @@ use lib.ListN.{length, get_or, get_elem?, take, drop, set}
 use lib.Seq.{get_or-drop, take-suc-set}
 use native.Mathlib.Numerals.{add-one}
 use Rattle.paper.specs.Plain.{State}
+use Rattle.paper.specs.declared.Op.{Op}
 use Rattle.paper.specs.declared.Ty.{Ty}
 use Rattle.paper.specs.Types.{same_ty}
 use Rattle.paper.specs.Tables.{Line, row, lines_in, line_value, values, line_type, is_earlier, is_non_zero, is_divisor}
-use Rattle.rows.specs.declared.line.Line as Code
-use Rattle.rows.specs.declared.line.Line.TheVariants.{Number, Read, Minus, Complement, Select, Binary, Conversion}
+use Rattle.rows.specs.declared.line.Form as Code
+use Rattle.rows.specs.declared.line.Form.TheVariants as Form
 use Rattle.rows.specs.Lent.{head_at, word_at, line_at}
-use Rattle.rows.specs.Said.{said}
+use Rattle.rows.specs.Said.{meant}
 
 -- ---- one row further
 
@@ -64,15 +65,33 @@ module _ (n : ℕ) (rs : List ℕ) where
   pub divisor_missing : (b : ℕ) → n ≤ b → is_divisor (lines_in n rs) (row b) ≡ false
   divisor_missing b h = rw (line_missing n rs b h, is_divisor)
 
--- any line but a number is no divisor
-pub other_divisor : (l : Code.Line) → ((t : Ty) (z : ℕ) → l ≡ Number t z → ⊥) → false ≡ is_non_zero (said l)
-other_divisor (Number t z) n = absurd (n t z refl)
-other_divisor (Read t c) n = refl
-other_divisor (Minus t a) n = refl
-other_divisor (Complement t a) n = refl
-other_divisor (Select t c a b) n = refl
-other_divisor (Binary o t a b) n = refl
-other_divisor (Conversion t u a) n = refl
+-- ---- what a form tells of its lines
+
+module _ (t : Ty) (a b c : ℕ) where
+  -- the lines of any but an operator or a conversion have the type of their head
+  pub other_type : (f : Code.Form)
+      → ((o : Op) → f ≡ Form.Binary o → ⊥)
+      → ((u : Ty) → f ≡ Form.Conversion u → ⊥)
+      → t ≡ line_type (meant f t a b c)
+  other_type Form.Number n m = refl
+  other_type Form.Read n m = refl
+  other_type Form.Minus n m = refl
+  other_type Form.Complement n m = refl
+  other_type Form.Select n m = refl
+  other_type (Form.Binary o) n m = absurd (n o refl)
+  other_type (Form.Conversion u) n m = absurd (m u refl)
+  other_type Form.Unknown n m = refl
+
+  -- any but a number is no divisor
+  pub other_divisor : (f : Code.Form) → (f ≡ Form.Number → ⊥) → false ≡ is_non_zero (meant f t a b c)
+  other_divisor Form.Number n = absurd (n refl)
+  other_divisor Form.Read n = refl
+  other_divisor Form.Minus n = refl
+  other_divisor Form.Complement n = refl
+  other_divisor Form.Select n = refl
+  other_divisor (Form.Binary o) n = refl
+  other_divisor (Form.Conversion u) n = refl
+  other_divisor Form.Unknown n = refl
 
 -- ---- values
 

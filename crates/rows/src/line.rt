@@ -2,10 +2,23 @@
 ghost use Rattle.std.specs.Prelude.{◌≡◌, ◌+◌, ◌*◌, ◌≤◌, length};
 ghost use Rattle.paper.specs.Tables.{two, to, line_in};
 ghost use Rattle.rows.specs.Lent.{line_at};
-ghost use Rattle.rows.specs.Said.{said, form_of};
+ghost use Rattle.rows.specs.Said.{said, meant, form_of};
 
 use paper::{Op, Ty};
 use value::type_with;
+
+// What a row's operation makes of its operands.
+#[derive(Clone, Copy)]
+pub enum Form {
+    Number,
+    Read,
+    Minus,
+    Complement,
+    Select,
+    Binary(Op),
+    Conversion(Ty),
+    Unknown,
+}
 
 // A row, with the type of its operands; its operands are a number, a cell or earlier rows.
 #[derive(Clone, Copy)]
@@ -58,25 +71,37 @@ fn target_of(operation: u32) -> Ty
     }
 }
 
-// The line of a row's four numbers. Most rows are numbers and reads: they come first.
+// The form with an operation's number.
 #[tactic(auto, unfolding(paper::specs::Tables::forms))]
+pub fn form_of(operation: u32) -> Form
+    ensures { meant result ≡ form_of operation }
+{
+    match operation {
+        0 => Form::Number,
+        1 => Form::Read,
+        2 => Form::Minus,
+        3 => Form::Complement,
+        4 => Form::Select,
+        5..=18 => Form::Binary(operator_of(operation)),
+        19..=22 => Form::Conversion(target_of(operation)),
+        _ => Form::Unknown,
+    }
+}
+
+// The line of a row's four numbers.
 fn line_in(head: u32, a: u32, b: u32, c: u32) -> Line
     ensures { said result ≡ line_in head a b c }
 {
     let t = type_with(head % 8);
-    if head < 8 {
-        return Line::Number(t, a);
-    }
-    if head < 16 {
-        return Line::Read(t, a);
-    }
-    match head / 8 {
-        2 => Line::Minus(t, a),
-        3 => Line::Complement(t, a),
-        4 => Line::Select(t, a, b, c),
-        k @ 5..=18 => Line::Binary(operator_of(k), t, a, b),
-        k @ 19..=22 => Line::Conversion(t, target_of(k), a),
-        _ => Line::Number(t, 0),
+    match form_of(head / 8) {
+        Form::Number => Line::Number(t, a),
+        Form::Read => Line::Read(t, a),
+        Form::Minus => Line::Minus(t, a),
+        Form::Complement => Line::Complement(t, a),
+        Form::Select => Line::Select(t, a, b, c),
+        Form::Binary(o) => Line::Binary(o, t, a, b),
+        Form::Conversion(u) => Line::Conversion(t, u, a),
+        Form::Unknown => Line::Number(t, 0),
     }
 }
 

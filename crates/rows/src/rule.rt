@@ -3,7 +3,7 @@ ghost use Rattle.std.specs.Prelude.{[], map, ◌≡◌, ◌+◌, ◌*◌, ◌≤
 ghost use Rattle.paper.specs.Tables.{row, binary, line_keeps, line_type, is_earlier, is_divisor, is_cell, lines_in, cell_keeps, cells_keep};
 ghost use Rattle.rows.specs.Lent.{line_at, is_known, row_keeps, rows_keep, info_in};
 
-use crate::line::{Line, line_at};
+use crate::line::{Form, Line, form_of, line_at};
 use crate::operators::{divides, gives, is_residue, takes};
 use crate::steps::{is_input, next_row};
 use paper::{Op, Ty};
@@ -11,19 +11,18 @@ use value::{is_signed, type_with};
 
 // ---- one row
 
-// The type of the value of row i.
+// The type of the value of row i, by its head alone.
+#[tactic(auto, using(crate::proofs::Lines::other_type), unfolding(crate::specs::Lent::line_at))]
 fn row_type(rows: &[u32], i: usize) -> Ty
     requires { 4 * i + 4 ≤ length rows.now }
     ensures { result ≡ line_type (line_at rows.now i) }
 {
-    match line_at(rows, i) {
-        Line::Number(t, _)
-        | Line::Read(t, _)
-        | Line::Minus(t, _)
-        | Line::Complement(t, _)
-        | Line::Select(t, _, _, _) => t,
-        Line::Binary(o, t, _, _) => gives(o, t),
-        Line::Conversion(_, u, _) => u,
+    let head = rows[4 * i];
+    let t = type_with(head % 8);
+    match form_of(head / 8) {
+        Form::Binary(o) => gives(o, t),
+        Form::Conversion(u) => u,
+        _ => t,
     }
 }
 
@@ -38,7 +37,7 @@ fn is_earlier(rows: &[u32], n: usize, t: Ty, a: u32) -> bool
 }
 
 // Whether row b is one of the first n, of a number other than 0.
-#[tactic(auto, using(crate::proofs::Lines::divisor_there, crate::proofs::Lines::divisor_missing, crate::proofs::Lines::other_divisor))]
+#[tactic(auto, using(crate::proofs::Lines::divisor_there, crate::proofs::Lines::divisor_missing, crate::proofs::Lines::other_divisor), unfolding(crate::specs::Lent::line_at))]
 fn is_divisor(rows: &[u32], n: usize, b: u32) -> bool
     requires { 4 * n ≤ length rows.now }
     ensures { result ≡ is_divisor (lines_in n rows.now) (row b) }
@@ -47,8 +46,9 @@ fn is_divisor(rows: &[u32], n: usize, b: u32) -> bool
     if n <= i {
         return false;
     }
-    match line_at(rows, i) {
-        Line::Number(_, z) => z != 0,
+    let at = 4 * i;
+    match form_of(rows[at] / 8) {
+        Form::Number => rows[at + 1] != 0,
         _ => false,
     }
 }
