@@ -5,7 +5,7 @@ ghost use Rattle.std.specs.Prelude.{◌≡◌, false, ◌≤◌, ◌<◌, MatchR
 ghost use Rattle.paper.specs.Refusals.{number_of};
 ghost use Rattle.pack.specs.Records.{numbered};
 ghost use Rattle.tally.specs.declared.Answer.TheVariants as A;
-ghost use Rattle.tally.specs.Counts.{IsWanted, Tallied, Went};
+ghost use Rattle.tally.specs.Counts.{is_compared, IsWanted, Tallied, Went};
 
 use pack::{Expected, RecordError, Refused};
 use paper::Refusal;
@@ -83,21 +83,28 @@ pub struct Tally {
 }
 
 // No pack holds as many records.
-const MOST: u64 = 100000;
+pub const MOST: u64 = 100000;
 
-// What is expected, as far as the refusals up to `last`.
+// Whether an expected refusal is one of those up to `last`: 0 at 0 says that there is none.
+fn is_compared(refused: Refused, last: u64) -> bool
+    ensures { result ≡ is_compared last refused }
+{
+    refused.number <= last && (refused.number != 0 || refused.place != 0)
+}
+
+// What is expected, as far as the refusals up to `last`; the number 0 at 0 is none.
 pub fn wanted(s: &[u8], last: u64) -> Answer
     ensures { IsWanted s.now last result }
 {
     match pack::expected_in(s) {
-        Some(Expected::Refused(refused)) if refused.number <= last => Answer::Refused(refused),
+        Some(Expected::Refused(refused)) if is_compared(refused, last) => Answer::Refused(refused),
         Some(_) => Answer::Passed,
         None => Answer::Unclear,
     }
 }
 
 // One text more. A line that can't be printed changes no count.
-fn compared(rt: &impl Print, t: Tally, answers: Answers) -> Tally
+pub fn compared(rt: &impl Print, t: Tally, answers: Answers) -> Tally
     requires { (t.tried < 100000) × (t.differ ≤ t.tried) }
     ensures { Tallied t answers result }
 {
@@ -119,7 +126,7 @@ fn compared(rt: &impl Print, t: Tally, answers: Answers) -> Tally
 }
 
 // Nothing more is tried; why, is said behind the record's number.
-fn stopped(rt: &impl Print, t: Tally, why: RecordError) -> Tally
+pub fn stopped(rt: &impl Print, t: Tally, why: RecordError) -> Tally
     requires { t.tried < 100000 }
     ensures { result ≡ record { tried = t.tried; differ = t.differ; more = false } }
 {

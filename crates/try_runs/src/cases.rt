@@ -21,20 +21,22 @@ fn narrow(values: &[i64], out: &mut [u32]) -> Option<()> {
     Some(())
 }
 
-// `N v,v,..`: the values into the front of `out`.
+// `N v,v,..`: the values into the front of `out`; N is 0 where it is left out.
 fn words_in(s: &[u8], out: &mut [u32]) -> Option<Counted>
     ensures { IfSome result (λ c. c.values ≤ length out.old) }
 {
     let mut wide = [0i64; 12260];
-    let number = pack::digits(s)?;
-    let list = s[number.count..].strip_prefix(b" ")?;
-    let values = values_in(list, &mut wide)?;
+    let (count, list) = match pack::digits(s) {
+        Some(number) => (number.value, &s[number.count..]),
+        None => (0, s),
+    };
+    let values = values_in(list.strip_prefix(b" ")?, &mut wide)?;
     if out.len() < values {
         return None;
     }
     narrow(&wide[..values], out)?;
     Some(Counted {
-        count: number.value as usize,
+        count: count as usize,
         values,
     })
 }
