@@ -120,6 +120,11 @@ maybe (Some x) = M.some x
 abbrev pub IsOperator : ℕ → Option Op → Type 0
 IsOperator c r = (s : List ℕ) (n : ℕ) → R.an_operator (denoted c s n) ≡ maybe r
 
+-- how tightly an operator binds, 0 for none
+abbrev pub level_of : Option Op → ℕ
+level_of None = 0
+level_of (Some o) = R.level o
+
 -- the same of a type
 abbrev pub IsType : ℕ → Option Ty → Type 0
 IsType c r = (s : List ℕ) (n : ℕ) → R.a_type (denoted c s n) ≡ maybe r

@@ -1,7 +1,6 @@
 // Classes of words that the shape asks for: 3 and the number in the list of reserved words, 54 and the number in that of the signs.
 ghost use Rattle.std.specs.Prelude.{◌≡◌};
-ghost use Rattle.paper.specs.Reading as R;
-ghost use Rattle.expressions.specs.Reads.{IsOperator, IsType, IsConversion};
+ghost use Rattle.expressions.specs.Reads.{level_of, IsOperator, IsType, IsConversion};
 
 use paper::{Op, Ty};
 
@@ -96,10 +95,13 @@ pub fn operator(class: u8) -> Option<Op>
     }
 }
 
-// How tightly an operator binds.
-pub fn level(o: Op) -> u8
-    ensures { result ≡ R.level o }
+// How tightly an operator binds, 0 for none.
+pub fn level(operator: Option<Op>) -> u8
+    ensures { result ≡ level_of operator }
 {
+    let Some(o) = operator else {
+        return 0;
+    };
     match o {
         Op::Mul => 7,
         Op::Div => 7,

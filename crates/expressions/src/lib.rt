@@ -289,7 +289,7 @@ fn joined(
         let Some(o) = operator(w.class) else {
             return Ok(left);
         };
-        let l = level(o);
+        let l = level(Some(o));
         if l < least {
             return Ok(left);
         }
