@@ -63,12 +63,12 @@ minus_size zero = refl
 minus_size (suc n) = refl
 
 -- its negation is far from the ends of i64
-minus_fits : (n : ℕ) → n < 10000000000 → SFits w64 (neg_ℤ (pos n))
+pub minus_fits : (n : ℕ) → n < 10000000000 → SFits w64 (neg_ℤ (pos n))
 minus_fits zero h = record { sfits = omega arith }
 minus_fits (suc n) h = record { sfits = omega arith }
 
 -- as the machine negates it, and reads it back
-negation : (n : ℕ) (z : ℤ) → n < 10000000000 → z ≡ pos n → pos 0 -ℤ to_z w64 (of_z w64 z) ≡ neg_ℤ (pos n)
+pub negation : (n : ℕ) (z : ℤ) → n < 10000000000 → z ≡ pos n → pos 0 -ℤ to_z w64 (of_z w64 z) ≡ neg_ℤ (pos n)
 negation n z h e = rw (e, to_z_pos w64 {n = n} (omega arith)) (+ℤ_idl (neg_ℤ (pos n)))
 
 pub negated : (n : ℕ) (z : ℤ) → n < 10000000000 → z ≡ pos n → to_z w64 (of_z w64 (pos 0 -ℤ to_z w64 (of_z w64 z))) ≡ neg_ℤ (pos n)
@@ -86,7 +86,7 @@ module _ (s : List ℕ) (n : Whole) (h : IsPlain s n) where
   first = sym (take_first n.count s h.digits.some) ∙ first_digit h.digits.digits counted
 
   -- no minus stands in front
-  plain_whole : begins (45 ∷ []) s ≡ false → IsWhole s n
+  pub plain_whole : begins (45 ∷ []) s ≡ false → IsWhole s n
   plain_whole b =
       record {
         first = rw b first;

@@ -8,9 +8,10 @@ use crate::blanks::skip;
 use crate::bytes::byte_at;
 use crate::held::{reader_at, word_of};
 use crate::reserved::name_class;
-use crate::runs::{Run, numeral_of, run_at};
+use crate::runs::{numeral_of, run_at};
 use crate::signs::{sign_class, sign_length};
 pub use names::{ends_alike, name_length, name_of, same_name};
+pub use runs::Run;
 
 mod blanks;
 mod bytes;
