@@ -11,7 +11,7 @@
  * - A buffer that a function writes to (no `const`) overlaps no other buffer of the call.
  * - A text needs no zero byte at its end.
  *
- * Nothing is kept between calls and no memory is allocated; of the C library only memset is called. Threads may call at
+ * Nothing is kept between calls and no memory is allocated; of the C library memcpy and memset are called. Threads may call at
  * the same time as long as none writes what another uses. How much stack is needed: KV_STACK_TEXT and KV_STACK_TABLE.
  * The rules are document 01's; docs/LAYOUT.md has rows, cells and values bit by bit.
  */
