@@ -4,19 +4,26 @@ use mathlib.Core.Logic.{◌⊎◌, inl, inr}
 use mathlib.Core.Bool.{Bool, true, false, cond}
 use mathlib.Core.Option.{Option, none, some}
 use mathlib.Core.List.{List}
-use Prim.Native.Nat.{ℕ}
+use Prim.Native.Nat.{ℕ, zero, suc, ◌+◌, ◌-◌, ◌≤◌, ◌<◌}
+use native.Mathlib.Omega.{arith}
+use borrow.Author.Tests.{ltb-true, ltb-false, ne_eqb}
+use lib.Dec.{ltb}
+use lib.ListN.{get_or, drop}
+use lib.Seq.{get_or-drop}
 use Rattle.paper.specs.declared.Ty.{Ty}
 use Rattle.paper.specs.declared.Ty.TheVariants.{Bool as BOOL, Dint as DINT}
 use Rattle.paper.specs.declared.Op.{Op}
+use Rattle.paper.specs.declared.Op.TheVariants.{Or}
 use Rattle.paper.specs.Types.{Sort, arithmetic, order, equality, logic, sort_of, gives, is_arithmetic}
 use Rattle.paper.specs.Source.{Expr, binary}
 use Rattle.paper.specs.Names.{Variable, find}
 use Rattle.paper.specs.Typing.{either, type_of_name, type_of, type_in, operand_type}
-use Rattle.tree.specs.Trees.{name_at, place_at, expr_at}
+use Rattle.tree.specs.Trees.{name_at, operators, place_at, expr_at}
+use Rattle.tree.proofs.Decodes.{none as no_more, ◌&◌, each}
 use Rattle.tree.specs.Kinds.{operand, expression_of, IsExpression}
 use Rattle.tree.specs.declared.kinds.Expression.{Expression}
 use Rattle.tree.specs.declared.kinds.Expression.TheVariants.{Nothing, Number, Truth, Variable as Name, Element, Minus, Complement, Brackets, Conversion, Binary}
-use Rattle.constants.specs.Answers.{is_typed, Offers}
+use Rattle.constants.specs.Answers.{is_typed, Offers, result_at}
 
 -- ---- a type of its own, else the one offered
 
@@ -47,6 +54,38 @@ module _ (vs : List Variable) (q : ℕ) (o : Op) (x y : Expr) where
       go order z = refl
       go equality z = refl
       go logic z = refl
+
+-- ---- by the number of a kind
+
+module _ (u : Ty) where
+  -- the first five operators keep the type of their operands
+  low : (n : ℕ) → n < 5 → gives (sort_of (get_or operators n Or)) u ≡ u
+  low zero l = refl
+  low (suc zero) l = refl
+  low (suc (suc zero)) l = refl
+  low (suc (suc (suc zero))) l = refl
+  low (suc (suc (suc (suc zero)))) l = refl
+  low (suc (suc (suc (suc (suc n))))) l = absurd (omega arith)
+
+  -- the others give BOOL, as what is beyond the last
+  high : (n : ℕ) → gives (sort_of (get_or operators (5 + n) Or)) u ≡ BOOL
+  high n =
+      ap (λ o. gives (sort_of o) u) (sym (get_or-drop 5 operators n Or))
+      ∙ each (λ o. gives (sort_of o) u ≡ BOOL) Or refl (drop 5 operators)
+      (refl & refl & refl & refl & refl & refl & refl & refl & refl & no_more) n
+
+  -- a kind above those of one operand gives what its operator gives
+  pub by_kind : (k w : ℕ) → 10 < k → gives (sort_of (get_or operators (k - 11) Or)) u ≡ result_at k w u
+  by_kind k w l = rw (ne_eqb k 8 (λ e. omega arith), ne_eqb k 10 (λ e. omega arith)) (go (ltb 15 k) refl)
+    where
+      go : (b : Bool) → ltb 15 k ≡ b → gives (sort_of (get_or operators (k - 11) Or)) u ≡ cond (ltb 15 k) BOOL u
+      go true e =
+          let h : 15 < k = ltb-true 15 k e in
+          let v : k - 11 ≡ 5 + (k - 16) = omega arith in
+          rw (e, v) (high (k - 16))
+      go false e =
+          let h : k ≤ 15 = ltb-false 15 k e in
+          rw e (low (k - 11) (omega arith))
 
 -- ---- nodes
 

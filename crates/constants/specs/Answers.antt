@@ -1,5 +1,5 @@
 -- What the answers stand for: a value, or none.
-use Rattle.std.specs.Prelude.{◌≡◌, Bool, true, false, cond, ◌&&◌, List, ℕ, ◌+◌, ◌-◌, leb, Option, Some, None, option_map, IfSome}
+use Rattle.std.specs.Prelude.{◌≡◌, Bool, true, false, cond, ◌&&◌, List, ℕ, ◌+◌, ◌-◌, ◌%◌, leb, eqb, ltb, get_or, Option, Some, None, option_map, IfSome}
 use Rattle.std.proofs.Math.Option as Math
 use Rattle.std.proofs.Math.Option.{none, some}
 use Rattle.paper.specs.declared.Ty.{Ty}
@@ -11,7 +11,7 @@ use Rattle.paper.specs.Names.{Variable}
 use Rattle.paper.specs.Typing.{type_of_name, type_of, type_in, operand_type}
 use Rattle.paper.specs.Meaning as Meaning
 use Rattle.paper.specs.Types.{sort_of, gives}
-use Rattle.tree.specs.Trees.{expr_at}
+use Rattle.tree.specs.Trees.{types, expr_at}
 use Rattle.tree.specs.declared.kinds.Expression.{Expression}
 use Rattle.tree.specs.declared.kinds.Expression.TheVariants as E
 use Rattle.constants.specs.declared.Valued.{Valued}
@@ -66,18 +66,22 @@ TypedAt p i r = (t : List ℕ) (vs : List Variable) → r ≡ true → is_typed 
 abbrev pub Offers : List Variable → Ty → Op → Expr → Expr → Ty → Type 0
 Offers vs t o l r u = is_typed (type_of vs l) ≡ false → u ≡ operand_type vs t o l r
 
+-- the type of a node of kind k, whose word 2 is w, over operands of the type u
+abbrev pub result_at : ℕ → ℕ → Ty → Ty
+result_at k w u = cond (eqb k 8) BOOL (cond (eqb k 10) (get_or types (w % 8) BOOL) (cond (ltb 15 k) BOOL u))
+
 -- the type of what a node is, over operands of the type u
-abbrev pub result_at : Expression → Ty → Ty
-result_at E.Nothing u = u
-result_at E.Number u = u
-result_at (E.Truth b) u = u
-result_at E.Variable u = u
-result_at E.Element u = u
-result_at E.Minus u = u
-result_at E.Complement u = BOOL
-result_at E.Brackets u = u
-result_at (E.Conversion v w) u = w
-result_at (E.Binary o) u = gives (sort_of o) u
+abbrev pub type_over : Expression → Ty → Ty
+type_over E.Nothing u = u
+type_over E.Number u = u
+type_over (E.Truth b) u = u
+type_over E.Variable u = u
+type_over E.Element u = u
+type_over E.Minus u = u
+type_over E.Complement u = BOOL
+type_over E.Brackets u = u
+type_over (E.Conversion v w) u = w
+type_over (E.Binary o) u = gives (sort_of o) u
 
 -- ---- parts of the definitions
 

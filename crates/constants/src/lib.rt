@@ -2,23 +2,24 @@
 // The variables of the table and what their cells hold are lent to each function.
 #![tactic(auto)]
 
-ghost use Rattle.std.specs.Prelude.{◌≡◌, not, ◌&&◌, pos, IfSome};
+ghost use Rattle.std.specs.Prelude.{◌≡◌, not, ◌&&◌, ◌-◌, pos, get_or, IfSome};
 ghost use Rattle.std.proofs.Math.Option.{some};
 ghost use Rattle.paper.specs.declared.Ty.TheVariants.{Bool as BOOL};
+ghost use Rattle.paper.specs.declared.Op.TheVariants.{Or};
 ghost use Rattle.paper.specs.Types.{negate, convert, bit, is_true, decode, divides, sort_of, is_arithmetic};
 ghost use Rattle.paper.specs.Typing.{is_zero, type_of_name, type_of, operand_type};
 ghost use Rattle.paper.specs.Plain as Plain;
 ghost use Rattle.paper.specs.Meaning.{operate, variable_cell, element_cell, whole_value};
-ghost use Rattle.tree.specs.Trees.{name_at, expr_at};
+ghost use Rattle.tree.specs.Trees.{name_at, operators, expr_at};
 ghost use Rattle.tree.specs.Kinds.{operand, IsExpression};
 ghost use Rattle.tree.specs.declared.kinds.Expression.TheVariants.{Binary};
 ghost use Rattle.variables.specs.Table.{listed_in};
-ghost use Rattle.constants.specs.Answers.{maybe, valued, celled, cell_between, NamedCell, CellIn, ValueIn, TypedAt, Offers, result_at};
+ghost use Rattle.constants.specs.Answers.{maybe, valued, celled, cell_between, NamedCell, CellIn, ValueIn, TypedAt, Offers, result_at, type_over};
 
 use paper::{Op, Ty};
-use tree::kinds::Expression;
+use tree::kinds::{Expression, operator_with};
 use tree::node::Node;
-use value::{apply, bit_of, converted, is_true, negated, residue_of, value_of};
+use value::{apply, bit_of, converted, is_true, negated, residue_of, type_with, value_of};
 use variables::declared::{bounds_of, is_array, type_of};
 use variables::listed::Variables;
 
@@ -92,6 +93,13 @@ pub fn type_of_expression(vars: Variables, n: Node) -> Option<Ty>
     own_type(&vars, n)
 }
 
+// The operator of a node's kind, the first and the last beyond the ends.
+pub fn operator_at(k: u16) -> Op
+    ensures { result ≡ get_or operators (k - 11) Or }
+{
+    operator_with(k.saturating_sub(11) as u32).unwrap_or(Op::Or)
+}
+
 // The one type of both operands of the operator at a node, where `t` is offered to the whole.
 pub fn operand_type(vars: Variables, t: Ty, o: Op, n: Node) -> Ty
     ensures { result ≡ operand_type (listed_in vars.entry.text.now vars.entry.pool.now vars.entry.table.now) t o
@@ -136,9 +144,22 @@ pub fn offered_first(vars: Variables, t: Ty, o: Op, n: Node) -> Ty
     operand_type(vars, t, o, n)
 }
 
+// The type of a node of the kind `k`, whose word 2 is `w`, over operands of the type `u`.
+#[tactic(auto, using(crate::proofs::Types::by_kind))]
+pub fn result_type(k: u16, w: u16, u: Ty) -> Ty
+    ensures { result ≡ result_at k w u }
+{
+    match k {
+        8 => Ty::Bool,
+        10 => type_with(w as u32 % 8),
+        0..=10 => u,
+        _ => type_over(Expression::Binary(operator_at(k)), u),
+    }
+}
+
 // The type of an expression over operands of the type `u`.
-pub fn result_type(e: Expression, u: Ty) -> Ty
-    ensures { result ≡ result_at e u }
+pub fn type_over(e: Expression, u: Ty) -> Ty
+    ensures { result ≡ type_over e u }
 {
     match e {
         Expression::Complement => Ty::Bool,
@@ -281,14 +302,14 @@ fn by_zero(o: Op, t: Ty, b: u32) -> bool
 // An operator on two operands of the type `t`: none by zero.
 fn result_of(o: Op, t: Ty, a: u32, b: u32) -> Option<Valued>
     ensures value { valued result ≡ operate o t a b }
-    ensures ty { IfSome result (λ r. r.ty ≡ result_at (Binary o) t) }
+    ensures ty { IfSome result (λ r. r.ty ≡ type_over (Binary o) t) }
 {
     if by_zero(o, t, b) {
         return None;
     }
     Some(Valued {
         residue: apply(o, t, a, b),
-        ty: result_type(Expression::Binary(o), t),
+        ty: type_over(Expression::Binary(o), t),
     })
 }
 

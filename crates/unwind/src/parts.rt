@@ -12,7 +12,7 @@ ghost use Rattle.variables.specs.Table.{listed_in};
 ghost use Rattle.unwind.specs.Walks.{Spelt};
 ghost use Rattle.unwind.specs.Parts.{Holds, Room, Emitted, PlainDid, CellDid, ReadDid, NoCell};
 
-use constants::{Celled, cell_of, offered_first, result_type};
+use constants::{Celled, cell_of, offered_first, type_over};
 use paper::{Op, Refusal, Ty, Why};
 use tree::kinds::Expression;
 use tree::node::Node;
@@ -233,6 +233,6 @@ fn binary_of(
     Ok(ended(
         last,
         x.parts + y.parts + 1,
-        result_type(Expression::Binary(o), u),
+        type_over(Expression::Binary(o), u),
     ))
 }

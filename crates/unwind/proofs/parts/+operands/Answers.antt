@@ -28,7 +28,7 @@ binary_of-returns t c =
     let x = rw (c.child.ensures.0, c.child.ensures.1) at c.in_ok-x.ensures in
     let y = rw (c.child-2.ensures.0, c.child-2.ensures.1) at c.in_ok-y.ensures in
     binary_did _ _ _ A.env.now A.t A.n.at A.o c.requires.0 _ c.offered_first-v.ensures A.out.now _ A.count _ x _ _ _ _ _ _ _
-    c.operator_number.ensures.small c.operator_number.ensures.is c.from.ensures y c.emit-last.ensures c.ended.ensures.0 c.ended.ensures.1 (c.ended.ensures.2 ∙ c.result_type.ensures)
+    c.operator_number.ensures.small c.operator_number.ensures.is c.from.ensures y c.emit-last.ensures c.ended.ensures.0 c.ended.ensures.1 (c.ended.ensures.2 ∙ c.type_over.ensures)
 
 pub plain_of-returns-in-Nothing : goal.plain_of-returns-in-Nothing
 plain_of-returns-in-Nothing t c =
