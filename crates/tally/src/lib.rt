@@ -126,7 +126,17 @@ pub fn compared(rt: &impl Print, t: Tally, answers: Answers) -> Tally
 }
 
 // Nothing more is tried; why, is said behind the record's number.
-pub fn stopped(rt: &impl Print, t: Tally, why: RecordError) -> Tally
+pub fn stopped(rt: &impl Print, t: Tally, why: &[u8]) -> Tally
+    requires { t.tried < 100000 }
+    ensures { result ≡ record { tried = t.tried; differ = t.differ; more = false } }
+{
+    let number = t.tried + 1;
+    let _ = print!(rt; "record {number}").and_then(|()| rt.write_all(why));
+    Tally { more: false, ..t }
+}
+
+// The same for the error of a record.
+pub fn stopped_by(rt: &impl Print, t: Tally, why: RecordError) -> Tally
     requires { t.tried < 100000 }
     ensures { result ≡ record { tried = t.tried; differ = t.differ; more = false } }
 {
@@ -151,7 +161,7 @@ fn one_more<P: Print, R: Read, J: Fn(&[u8], &[u8]) -> Answers>(
     match pack::next_record(reader, &mut text, &mut expected) {
         Ok(Some(l)) => compared(rt, t, judge(&text[..l.text], &expected[..l.expected])),
         Ok(None) => Tally { more: false, ..t },
-        Err(why) => stopped(rt, t, why),
+        Err(why) => stopped_by(rt, t, why),
     }
 }
 
